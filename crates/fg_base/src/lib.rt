@@ -1,8 +1,20 @@
-//! The words that every layer of the engine shares: its limits, the two answers that carry nothing
-//! but themselves, and the plain data that more than one layer speaks of.
+//! The words that every layer of the engine shares: its limits, the plain data of a graph and of a vertex's
+//! state, the refusals with their statuses, and the count of vertex runs.
+//!
+//! Nothing stands below but the kit. Every crate above may name everything here.
 #![tactic(auto)]
 
 mod answers;
+mod count;
+mod items;
 pub mod limits;
+mod plain;
+mod refusal;
+mod tally;
 
 pub use answers::{Failed, Memory};
+pub use count::Count;
+pub use items::Items;
+pub use plain::{BadEdge, Dir, Entry, Need, VState, Value};
+pub use refusal::{Opt, Refusal, WordFault};
+pub use tally::Tally;
