@@ -1,0 +1,61 @@
+//! The name of a frame: the pages of an image, as contracts see them.
+ghost use Rattle.std.specs.Prelude.{◌≡◌, ℕ, List};
+ghost use base.Fml.{ftrue};
+ghost use base.Stored.{coded_list, coded_ℕ};
+
+use std::marker::{Brand, Model, PhantomData};
+
+/// The bytes of each page of an image, in order. They are no value of the program: the proof of a call picks them.
+pub trait Image {
+    ghost use Rattle.std.specs.Prelude.{ℕ, List};
+
+    ghost pages: { List (List ℕ) };
+}
+
+impl Image for Brand {
+    ghost use Rattle.std.specs.Prelude.{[]};
+
+    ghost pages = { [] };
+}
+
+/// The pages of an image. It has no bytes.
+pub struct ImageName {
+    marker: PhantomData<()>,
+    pub ghost pages: { List (List ℕ) } by { coded_list (coded_list coded_ℕ) },
+}
+
+impl Model for ImageName {
+    ghost also_owns = { λ _. ftrue };
+}
+
+impl ImageName {
+    /// The name of the image whose pages `I` has. A function generic in `I` that is called at `Brand` has those that
+    /// its caller's proof picks from the call's arguments.
+    pub fn of<I: Image>() -> ImageName
+        ensures { result.pages ≡ I.pages }
+    {
+        ImageName {
+            marker: PhantomData,
+        }
+    }
+
+    /// One more name of the same image, for one more frame.
+    pub fn again(&self) -> ImageName
+        ensures { result.pages ≡ self.now.pages }
+    {
+        same_as::<Brand>(self)
+    }
+}
+
+// The pages are picked from the name that is passed, for that alone.
+fn same_as<I: Image>(_name: &ImageName) -> ImageName
+    ensures { result.pages ≡ I.pages }
+{
+    ImageName::of::<I>()
+}
+
+impl Drop for ImageName {
+    fn drop(self) {
+        let Self { marker: _ } = self;
+    }
+}

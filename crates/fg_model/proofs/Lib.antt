@@ -1,0 +1,4 @@
+pub mod IterationLemmas
+pub mod PlainLemmas
+pub mod RunLemmas
+pub mod StandLemmas

@@ -1,0 +1,283 @@
+//! The run in memory, which everything faster is measured against.
+
+ghost use Rattle.std.specs.Prelude.{◌≡◌, ◌+◌, ◌<◌, ◌≤◌, ◌^◌, ◌∷◌, ℕ, true, None, Some, Ok, Err, List, [], find, length, map, IfErr, IfOk, OnOk, All, vec_len};
+ghost use Rattle.fg_base.specs.Faults.{Rose};
+ghost use Rattle.fg_model.specs.declared.run.RunFault.{RunFault};
+ghost use Rattle.fg_model.specs.Engine.{MatchRunFault};
+ghost use Rattle.fg_model.specs.Graph.{IsWithinLimits};
+ghost use Rattle.fg_model.specs.Iteration.{folded, is_bad, states_after_runs};
+ghost use Rattle.fg_model.specs.Plain.{all_active, edges_over, messages_over, sent_from};
+ghost use Rattle.fg_model.specs.Run.{answer_of, entries_of, opening_states, run, runs_of};
+ghost use Rattle.fg_model.specs.Watch.{ShownAll, ShownPart, ShownSome};
+ghost use Rattle.fg_model.specs.VertexRun.{edges_from, edges_of, message_along};
+
+use crate::engine::Engine;
+use crate::graph::Graph;
+use crate::iteration::{IterFault, Iteration};
+use crate::program::Program;
+use crate::run::{End, RunFault, run_engine};
+use crate::watch::Watch;
+use fg_base::{BadEdge, Dir, Entry, Items, Memory, Need, Tally, VState};
+use std::alloc::Global;
+
+/// An active vertex whose run began, and the carry that its messages are made from.
+#[derive(Clone, Copy)]
+struct Active {
+    v: u32,
+    carry: u64,
+}
+
+/// The states after all runs, and the vertices that ran.
+#[derive(Drop)]
+struct Runs {
+    states: Vec<VState>,
+    active: Vec<Active>,
+}
+
+/// Begins the run of each active vertex, on the states as they stand.
+fn begin_runs<P: Program, T: Tally>(
+    alloc: Global,
+    program: &P,
+    phase: u64,
+    states: &[VState],
+    tally: &mut T,
+) -> Result<Runs, Memory>
+    requires few { length states.now ≤ 2 ^ 24 }
+    requires room { T.runs tally.old + length states.now < 2 ^ 64 }
+    ensures states { IfOk result (λ runs. runs.states.items ≡ states_after_runs (P.rules program.now) phase states.now) }
+    ensures active { IfOk result (λ runs. runs.active.items ≡ all_active (P.rules program.now) phase states.now) }
+    ensures runs { IfOk result (λ runs. T.runs tally.new ≡ T.runs tally.old + vec_len runs.active) }
+    ensures entries { T.entries tally.new ≡ T.entries tally.old }
+{
+    let mut next = Vec::with_capacity(alloc, states.len())?;
+    let mut active = Vec::new(alloc);
+    for v in 0..states.len() {
+        let s = states[v];
+        if !program.wake(phase, s) {
+            next.push(s)?;
+            continue;
+        }
+        let (state, carry) = program.begin(phase, v as u32, s, tally);
+        next.push(state)?;
+        active.push(Active { v: v as u32, carry })?;
+    }
+    Ok(Runs {
+        states: next,
+        active,
+    })
+}
+
+/// Folds in a message along each entry of one list of an active vertex, up to the first bad edge.
+fn send_along<P: Program, T: Tally>(
+    program: &P,
+    from: Active,
+    dir: Dir,
+    entries: &[Entry],
+    states: &mut [VState],
+    tally: &mut T,
+) -> Result<(), BadEdge>
+    requires few { length entries.now ≤ 2 ^ 26 }
+    requires room { T.entries tally.old + length entries.now < 2 ^ 64 }
+    ensures runs { T.runs tally.new ≡ T.runs tally.old }
+    ensures ok_sound { OnOk result (find (is_bad (length states.old)) (edges_from from.v dir 0 entries.now) ≡ None) }
+    ensures ok_states { OnOk result (states.new ≡ folded (P.rules program.now) (map (message_along (P.rules program.now) from.carry dir) entries.now) states.old) }
+    ensures ok_entries { OnOk result (T.entries tally.new ≡ T.entries tally.old + length entries.now) }
+    ensures err { IfErr result (λ bad. find (is_bad (length states.old)) (edges_from from.v dir 0 entries.now) ≡ Some bad) }
+{
+    for (place, entry) in entries.iter().enumerate() {
+        let target = entry.target as usize;
+        if target >= states.len() {
+            return Err(BadEdge {
+                v: from.v,
+                dir,
+                place: place as u32,
+                found: entry.target,
+            });
+        }
+        let m = program.edge(from.carry, dir, *entry, tally);
+        states[target] = program.receive(states[target], m);
+    }
+    Ok(())
+}
+
+/// The same for all needed lists of an active vertex; the answer is how many messages it sent.
+fn send<P: Program, T: Tally>(
+    program: &P,
+    need: Need,
+    graph: &Graph,
+    from: Active,
+    states: &mut [VState],
+    tally: &mut T,
+) -> Result<u64, BadEdge>
+    requires within { IsWithinLimits graph.now }
+    requires vertex { from.v < graph.now.n }
+    requires states { length states.old ≡ graph.now.n }
+    requires room { T.entries tally.old + length (edges_of need graph.now from.v) < 2 ^ 64 }
+    ensures runs { T.runs tally.new ≡ T.runs tally.old }
+    ensures ok_sound { OnOk result (find (is_bad graph.now.n) (edges_of need graph.now from.v) ≡ None) }
+    ensures ok_states { OnOk result (states.new ≡ folded (P.rules program.now) (sent_from (P.rules program.now) need graph.now from) states.old) }
+    ensures ok_count { IfOk result (λ count. count ≡ length (edges_of need graph.now from.v)) }
+    ensures ok_entries { OnOk result (T.entries tally.new ≡ T.entries tally.old + length (edges_of need graph.now from.v)) }
+    ensures err { IfErr result (λ bad. find (is_bad graph.now.n) (edges_of need graph.now from.v) ≡ Some bad) }
+{
+    let outs = graph.outs.as_slice()[from.v as usize].as_slice();
+    let ins = graph.ins.as_slice()[from.v as usize].as_slice();
+    match need {
+        Need::Out => {
+            send_along(program, from, Dir::Out, outs, states, tally)?;
+            Ok(outs.len() as u64)
+        }
+        Need::In => {
+            send_along(program, from, Dir::In, ins, states, tally)?;
+            Ok(ins.len() as u64)
+        }
+        Need::Both => {
+            send_along(program, from, Dir::Out, outs, states, tally)?;
+            send_along(program, from, Dir::In, ins, states, tally)?;
+            Ok(outs.len() as u64 + ins.len() as u64)
+        }
+    }
+}
+
+/// Folds in all messages of these vertices; the answer is how many there were.
+fn deliver<P: Program, T: Tally>(
+    program: &P,
+    need: Need,
+    graph: &Graph,
+    active: &[Active],
+    states: &mut [VState],
+    tally: &mut T,
+) -> Result<u64, BadEdge>
+    requires within { IsWithinLimits graph.now }
+    requires vertices { All (λ from. from.v < graph.now.n) active.now }
+    requires states { length states.old ≡ graph.now.n }
+    requires few { length (edges_over need graph.now active.now) ≤ 2 ^ 27 }
+    requires room { T.entries tally.old + 2 ^ 27 < 2 ^ 64 }
+    ensures runs { T.runs tally.new ≡ T.runs tally.old }
+    ensures ok_sound { OnOk result (find (is_bad graph.now.n) (edges_over need graph.now active.now) ≡ None) }
+    ensures ok_states { OnOk result (states.new ≡ folded (P.rules program.now) (messages_over (P.rules program.now) need graph.now active.now) states.old) }
+    ensures ok_count { IfOk result (λ count. count ≡ length (edges_over need graph.now active.now)) }
+    ensures ok_entries { OnOk result (T.entries tally.new ≡ T.entries tally.old + length (edges_over need graph.now active.now)) }
+    ensures err { IfErr result (λ bad. find (is_bad graph.now.n) (edges_over need graph.now active.now) ≡ Some bad) }
+{
+    let mut messages = 0;
+    for from in active {
+        messages += send(program, need, graph, *from, states, tally)?;
+    }
+    Ok(messages)
+}
+
+/// An engine over a graph in memory. It reads nothing, so no drive can fail, and it knows its graph.
+#[derive(Drop)]
+struct PlainEngine<'a> {
+    graph: &'a Graph,
+}
+
+impl<P: Program, T: Tally> Engine<P, T> for PlainEngine<'_> {
+    ghost graph = { λ engine. engine.graph.now };
+
+    ghost knows = { λ engine. true };
+
+    ghost ready = { λ engine. IsWithinLimits engine.graph.now };
+
+    ghost allows = { λ engine rules begun. Unit {0} };
+
+    ghost kept = { λ old new. Unit {0} };
+
+    ghost failed = { λ old new drive. ⊥ };
+
+    ghost did = { λ old new rules begun. Unit {0} };
+
+    ghost kept_none = { λ engine. tt };
+
+    ghost kept_more = { λ first middle last kept more. tt };
+
+    ghost failed_more = { λ first middle last drive kept failed. failed };
+
+    ghost did_none = { λ engine rules. tt };
+
+    ghost did_more = { λ first middle last rules begun next did more. tt };
+
+    /// Keeps the carry of each active vertex, and walks its lists again once all runs began: a vector of all messages
+    /// would take 16 bytes for each.
+    fn iterate(
+        &mut self,
+        alloc: Global,
+        program: &P,
+        phase: u64,
+        states: &[VState],
+        tally: &mut T,
+    ) -> Result<Iteration, IterFault> {
+        let Runs {
+            states: mut next,
+            active,
+        } = begin_runs(alloc, program, phase, states, tally)?;
+        let need = program.need();
+        let messages = deliver(
+            program,
+            need,
+            self.graph,
+            active.as_slice(),
+            next.as_mut_slice(),
+            tally,
+        )?;
+        Ok(Iteration {
+            states: Items::from_vec(next),
+            active: active.len() as u64,
+            messages,
+        })
+    }
+}
+
+/// The opening state of each vertex, from its two degrees.
+fn open_states<P: Program>(alloc: Global, program: &P, graph: &Graph) -> Result<Vec<VState>, Memory>
+    requires { IsWithinLimits graph.now }
+    ensures { IfOk result (λ states. states.items ≡ opening_states (P.rules program.now) graph.now) }
+{
+    let mut states = Vec::with_capacity(alloc, graph.n as usize)?;
+    for v in 0..graph.n {
+        let outs = graph.outs.as_slice()[v as usize].len() as u32;
+        let ins = graph.ins.as_slice()[v as usize].len() as u32;
+        states.push(program.init(v, outs, ins))?;
+    }
+    Ok(states)
+}
+
+/// The run of a program on a graph in memory, with at most `max` iterations. The watch is shown each finished iteration
+/// in order; a refused one isn't shown. The tally rises by one run for each active vertex and by one entry for each of
+/// their needed entries. It takes O(n + entries) per iteration, and five vectors in all that stand at once.
+///
+/// It answers `BadEdge` exactly where the run of the definition ends so and no note failed, `Watch` exactly where the
+/// watch's count rose in this call, and `Drive` never.
+pub fn plain_run<P: Program, W: Watch, T: Tally>(
+    alloc: Global,
+    graph: &Graph,
+    program: &P,
+    max: u32,
+    watch: &mut W,
+    tally: &mut T,
+) -> Result<End, RunFault>
+    requires within { IsWithinLimits graph.now }
+    requires some { 1 ≤ max }
+    requires room_of_runs { T.runs tally.old + 2 ^ 56 ≤ 2 ^ 64 }
+    requires room_of_entries { T.entries tally.old + 2 ^ 59 ≤ 2 ^ 64 }
+    ensures same_told { W.told watch.new ≡ W.told watch.old }
+    // of a run with an end
+    ensures ok { IfOk result (λ end. answer_of (run (P.rules program.now) graph.now max) ≡ Ok end) }
+    ensures ok_watch { OnOk result (W.faults watch.new ≡ W.faults watch.old) }
+    ensures ok_shown { OnOk result (ShownAll (W.told watch.old) (run (P.rules program.now) graph.now max).finished (W.notes watch.old) (W.notes watch.new)) }
+    ensures ok_runs { OnOk result (T.runs tally.new ≡ T.runs tally.old + runs_of (run (P.rules program.now) graph.now max).finished) }
+    ensures ok_entries { OnOk result (T.entries tally.new ≡ T.entries tally.old + entries_of (run (P.rules program.now) graph.now max).finished) }
+    // of each fault: whether the watch's count rose, whether the run ends so, and what was shown
+    ensures faults { IfErr result (λ fault. MatchRunFault fault (W.faults watch.new ≡ W.faults watch.old) (λ drive. ⊥) (λ bad. W.faults watch.new ≡ W.faults watch.old) (Rose (W.faults watch.old) (W.faults watch.new))) }
+    ensures bad_edge { IfErr result (λ fault. MatchRunFault fault (Unit {0}) (λ drive. ⊥) (λ bad. answer_of (run (P.rules program.now) graph.now max) ≡ Err (RunFault.BadEdge bad)) (Unit {0})) }
+    ensures shown { IfErr result (λ fault. MatchRunFault fault
+        (ShownSome (W.told watch.old) (run (P.rules program.now) graph.now max).finished (W.notes watch.old) (W.notes watch.new))
+        (λ drive. ⊥)
+        (λ bad. ShownAll (W.told watch.old) (run (P.rules program.now) graph.now max).finished (W.notes watch.old) (W.notes watch.new))
+        (ShownPart (W.told watch.old) (run (P.rules program.now) graph.now max).finished (W.notes watch.old) (W.notes watch.new))) }
+{
+    let states = open_states(alloc, program, graph)?;
+    let mut engine = PlainEngine { graph };
+    run_engine(alloc, &mut engine, program, states, max, watch, tally)
+}

@@ -1,0 +1,2 @@
+mod Ceilings
+pub mod PartMapLaws

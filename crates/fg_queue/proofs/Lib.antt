@@ -1,0 +1,4 @@
+pub mod RunLemmas
+pub mod RestLemmas
+pub mod MergeLemmas
+pub mod TakenLemmas

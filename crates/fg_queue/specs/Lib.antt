@@ -1,0 +1,5 @@
+pub mod LoadQueue
+pub mod QueueStep
+pub mod Slips
+pub mod LoadRun
+pub mod Merge

@@ -1,0 +1,73 @@
+//! The program `fg`: it does the job that its words ask for, on files, and ends with the job's status.
+#![tactic(auto)]
+
+ghost use Rattle.std.specs.Prelude.{◌≡◌, IfOk, length, vec_len};
+
+use fg_base::{Count, Memory};
+use fg_outside::{FileDrive, StdSink, StdSource};
+use fg_top::flash;
+use fg_top::words::drive_names;
+use std::alloc::Global;
+use std::fs::File;
+use std::process::ExitCode;
+use std::rt::Files;
+use std::{env, io};
+
+/// The status for want of memory before the job began; nothing is printed then.
+const NO_MEMORY: u8 = 1;
+
+fn main(rt: HostRuntime) -> ExitCode {
+    let alloc = rt.alloc();
+    let Ok(words) = read_words(&rt, alloc) else {
+        return ExitCode::from(NO_MEMORY);
+    };
+    let Ok(names) = drive_names(alloc, &words) else {
+        return ExitCode::from(NO_MEMORY);
+    };
+    let Ok(mut drives) = open_drives(&rt, alloc, &names) else {
+        return ExitCode::from(NO_MEMORY);
+    };
+    let mut input = StdSource::stdin(&rt);
+    let mut out = StdSink::stdout(&rt);
+    let mut tally = Count::new();
+    let status = flash(
+        &rt,
+        alloc,
+        &words,
+        &mut input,
+        &mut drives,
+        &mut out,
+        &mut tally,
+    );
+    ExitCode::from(status)
+}
+
+/// The words after the program's name. A word that isn't UTF-8 makes them unreadable as a whole: no words then.
+fn read_words(rt: &HostRuntime, alloc: Global) -> Result<Vec<String>, Memory> {
+    let mut words = Vec::new(alloc);
+    match env::args(rt) {
+        Ok(args) => {
+            for word in args.skip(1) {
+                words.push(word)?;
+            }
+            Ok(words)
+        }
+        Err(error) if error.kind() == io::ErrorKind::OutOfMemory => Err(Memory),
+        Err(_) => Ok(words),
+    }
+}
+
+/// The drives of these names, opened for reading alone.
+fn open_drives<R: Files<File = File>>(
+    rt: &R,
+    alloc: Global,
+    names: &Vec<String>,
+) -> Result<Vec<FileDrive>, Memory>
+    ensures { IfOk result (λ drives. vec_len drives ≡ vec_len names.now) }
+{
+    let mut drives = Vec::new(alloc);
+    for name in names {
+        drives.push(FileDrive::named(rt, name.as_str(), false))?;
+    }
+    Ok(drives)
+}

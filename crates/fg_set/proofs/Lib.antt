@@ -1,0 +1,9 @@
+pub mod PinBitsLemmas
+pub mod ClockLemmas
+pub mod EntryLemmas
+pub mod TurnLemmas
+pub mod WantLemmas
+pub mod SoundLemmas
+pub mod CauseLemmas
+pub mod DirectoryLemmas
+pub mod PlacedLemmas

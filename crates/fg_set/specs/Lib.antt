@@ -1,0 +1,9 @@
+pub mod PinBits
+pub mod Entry
+pub mod PageSet
+pub mod Clock
+pub mod DirectoryStep
+pub mod Slips
+pub mod Want
+pub mod Directory
+pub mod Change

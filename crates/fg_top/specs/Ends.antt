@@ -1,0 +1,73 @@
+-- How a job ends: its status, what was written, and whose count of faults rose. This is the form in which every job's
+-- end is stated.
+use Rattle.std.specs.Prelude.{◌≡◌, ℕ, Option, None, Some, List, ◌++◌, ◌⊎◌, take}
+use Rattle.std.specs.List.{concat}
+use Rattle.fg_base.specs.Faults.{Rose}
+use Rattle.fg_base.specs.Refusal.{status_of}
+use Rattle.fg_base.specs.Told.{grown, GrewByFirst}
+use Rattle.fg_base.specs.declared.refusal.Refusal.{Refusal}
+use Rattle.fg_base.specs.declared.refusal.Refusal.TheVariants.{Memory, OutputFault, DriveFault}
+use Rattle.fg_report.specs.Refusals.{refusal_line}
+use Rattle.fg_top.specs.Drives.{NoneRose, RoseFirst}
+use Rattle.fg_top.specs.Outcome.{Close, Outcome, Done, Refuses}
+
+-- the status where nothing or this refusal ended the work and its text was written
+abbrev pub status_at : Option Refusal → ℕ
+status_at None = 0
+status_at (Some refusal) = status_of refusal
+
+-- the text is that of an outcome which the job comes to and which closes so: all its lines, and then the last text
+pub record IsOutcome (comes : Outcome → Type 0) (close : Close) (last text : List ℕ) : Type 0 where
+  pub outcome : Outcome
+  pub is_one : comes outcome
+  pub closes : outcome.close ≡ close
+  pub text_is : text ≡ concat outcome.lines ++ last
+
+-- the text is some first lines of an outcome which the job comes to, and then the last text
+pub record IsCutShort (comes : Outcome → Type 0) (last text : List ℕ) : Type 0 where
+  pub outcome : Outcome
+  pub is_one : comes outcome
+  pub count : ℕ
+  pub text_is : text ≡ concat (take count outcome.lines) ++ last
+
+-- the job is done, and this is its text
+pub record IsDone (comes : Outcome → Type 0) (text : List ℕ) : Type 0 where
+  pub last : List ℕ
+  pub is_outcome : IsOutcome comes (Done last) last text
+
+-- why nothing or this refusal ended the work before the last text was written, and the text of that end. Want of memory
+-- is free. A drive's fault is that of the first drive whose count rose. Every other end comes where no drive's count
+-- rose, and is an outcome that the job comes to. The output's fault ends no work: it shows when the text is written.
+abbrev pub IsCause : {D : Type 0} → (D → ℕ) → List D → List D → (Outcome → Type 0) → Option Refusal → List ℕ → Type 0
+IsCause faults olds news comes None text = NoneRose faults olds news × IsDone comes text
+IsCause faults olds news comes (Some Memory) text = IsCutShort comes (refusal_line Memory) text
+IsCause faults olds news comes (Some OutputFault) text = ⊥
+IsCause faults olds news comes (Some (DriveFault drive)) text =
+    RoseFirst faults drive olds news × IsCutShort comes (refusal_line (DriveFault drive)) text
+IsCause faults olds news comes (Some refusal) text =
+    NoneRose faults olds news × IsOutcome comes (Refuses refusal) (refusal_line refusal) text
+
+-- the sink's counts and its texts, before and after a job
+pub record Output : Type 0 where
+  pub old_faults : ℕ
+  pub new_faults : ℕ
+  pub old_text : Option (List ℕ)
+  pub new_text : Option (List ℕ)
+
+abbrev pub output_between : ℕ → ℕ → Option (List ℕ) → Option (List ℕ) → Output
+output_between old_faults new_faults old_text new_text =
+    record { old_faults = old_faults; new_faults = new_faults; old_text = old_text; new_text = new_text }
+
+-- the text was written whole and the status is that of the end; or a put failed, a first part of the text was written,
+-- and the status is 4
+abbrev pub IsWritten : Output → Option Refusal → List ℕ → ℕ → Type 0
+IsWritten output end text status =
+    ((output.new_faults ≡ output.old_faults) × (output.new_text ≡ grown output.old_text text) × (status ≡ status_at end))
+    ⊎ (Rose output.old_faults output.new_faults × GrewByFirst text output.old_text output.new_text × (status ≡ 4))
+
+-- a job's end: what ended the work has its cause, and the text of that end was written, or a put failed
+pub record Ends {D : Type 0} (faults : D → ℕ) (olds news : List D) (comes : Outcome → Type 0) (output : Output) (status : ℕ) : Type 0 where
+  pub end : Option Refusal
+  pub text : List ℕ
+  pub cause : IsCause faults olds news comes end text
+  pub written : IsWritten output end text status

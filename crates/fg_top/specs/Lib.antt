@@ -1,0 +1,17 @@
+pub mod Asked
+pub mod AskedLaws
+pub mod Drives
+pub mod Ends
+pub mod Form
+pub mod Front
+pub mod Header
+pub mod Levels
+pub mod Lists
+pub mod OpenFault
+pub mod Opening
+pub mod Outcome
+pub mod Reads
+pub mod Ready
+pub mod Sending
+pub mod Words
+pub mod Work

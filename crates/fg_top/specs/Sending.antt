@@ -1,0 +1,34 @@
+-- What a vertex sends along entries, and what sending does to the states.
+use Rattle.std.specs.Prelude.{◌≡◌, ℕ, ◌+◌, ◌<◌, ◌≤◌, nat_le, Option, None, List, [], ◌∷◌, find, if◌then◌else◌}
+use Rattle.fg_base.specs.declared.plain.BadEdge.{BadEdge}
+use Rattle.fg_base.specs.declared.plain.VState.{VState}
+use Rattle.fg_model.specs.Iteration.{folded, state_at}
+use Rattle.fg_model.specs.Program.{Rules}
+use Rattle.fg_model.specs.VertexRun.{Message}
+use Rattle.fg_top.specs.declared.send.Sender.{Sender}
+
+-- the first of these edges that leads to no vertex below n
+abbrev pub first_bad_of : ℕ → List BadEdge → Option BadEdge
+first_bad_of n edges = find (λ edge. nat_le n edge.found) edges
+
+-- none of the edges is bad, and the messages along them are folded into the states
+pub record AreSent (P : Rules) (n : ℕ) (edges : List BadEdge) (messages : List Message) (old new : List VState) : Type 0 where
+  pub no_bad_edge : first_bad_of n edges ≡ None
+  pub folded_in : new ≡ folded P messages old
+
+-- an active vertex with the carry of its run
+abbrev pub sender_at : Rules → ℕ → List VState → ℕ → Sender
+sender_at P phase states v = record { v = v; carry = (P.begin phase v (state_at states v)).1 }
+
+-- the vertex v with this state as a sender, where it is active
+abbrev pub senders_of : Rules → ℕ → ℕ → VState → List Sender
+senders_of P phase v s = if P.wake phase s then (record { v = v; carry = (P.begin phase v s).1 }) ∷ [] else []
+
+-- the vertex of a sender
+abbrev pub vertex_of : Sender → ℕ
+vertex_of sender = sender.v
+
+-- the vertices ascend, from `low` on and below n
+abbrev pub Ascend : ℕ → ℕ → List ℕ → Type 0
+Ascend low n [] = Unit {0}
+Ascend low n (v ∷ vertices) = (low ≤ v) × (v < n) × Ascend (v + 1) n vertices
