@@ -2,6 +2,7 @@ pub mod Engine
 pub mod Graph
 pub mod Iteration
 pub mod Plain
+pub mod Mirror
 pub mod Program
 pub mod Run
 pub mod VertexRun

@@ -1,2 +1,5 @@
+pub mod Lines
 pub mod Refusals
+pub mod ReportWatch
+pub mod Sum
 pub mod Values

@@ -1,5 +1,5 @@
 -- The line of a refusal.
-use Rattle.std.specs.Prelude.{ℕ, List, [], ◌∷◌, ◌++◌, codes, decimal}
+use Rattle.std.specs.Prelude.{ℕ, List, ◌++◌, codes, decimal}
 use Rattle.fg_base.specs.declared.plain.Dir.{Dir}
 use Rattle.fg_base.specs.declared.plain.Dir.TheVariants.{Out, In}
 use Rattle.fg_base.specs.declared.refusal.Opt.{Opt}

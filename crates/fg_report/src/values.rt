@@ -33,16 +33,34 @@ fn push_value(line: &mut Line, value: Value)
 }
 
 /// Writes the line of one vertex.
-fn write_value<K: Sink>(out: &mut K, v: u32, value: Value) -> Result<(), Failed>
+fn write_value<K: Sink>(out: &mut K, v: u64, value: Value) -> Result<(), Failed>
     ensures whole { OnOk result (K.written out.new ≡ grown (K.written out.old) (value_line v value)) }
     ensures part { OnErr result (GrewByFirst (value_line v value) (K.written out.old) (K.written out.new)) }
     ensures counted { Counts (K.faults out.old) (K.faults out.new) result }
 {
     let mut line = Line::new();
-    push_number(&mut line, u64::from(v));
+    push_number(&mut line, v);
     push_value(&mut line, value);
     line.push_str("\n");
     write_all(out, line.as_bytes())
+}
+
+/// Writes the value lines of these states, each line by one `write_all`.
+pub fn write_value_lines<K: Sink, P: Program>(
+    out: &mut K,
+    program: &P,
+    states: &[VState],
+) -> Result<(), Failed>
+    ensures whole { OnOk result (K.written out.new ≡ grown (K.written out.old) (value_lines (P.rules program.now).show states.now)) }
+    ensures part { OnErr result (GrewByFirst (value_lines (P.rules program.now).show states.now) (K.written out.old) (K.written out.new)) }
+    ensures counted { Counts (K.faults out.old) (K.faults out.new) result }
+{
+    for (v, state) in states.iter().enumerate() {
+        if let Err(failed) = write_value(out, v as u64, program.show(*state)) {
+            return Err(failed);
+        }
+    }
+    Ok(())
 }
 
 /// Writes the value lines of all vertices, ascending, each line by one `write_all`.
@@ -56,10 +74,5 @@ pub fn write_values<K: Sink, P: Program>(
     ensures part { OnErr result (GrewByFirst (value_lines (P.rules program.now).show states.now) (K.written out.old) (K.written out.new)) }
     ensures counted { Counts (K.faults out.old) (K.faults out.new) result }
 {
-    for (v, state) in states.iter().enumerate() {
-        if let Err(failed) = write_value(out, v as u32, program.show(*state)) {
-            return Err(failed);
-        }
-    }
-    Ok(())
+    write_value_lines(out, program, states)
 }

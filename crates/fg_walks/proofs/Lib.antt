@@ -1,0 +1,5 @@
+pub mod Each
+pub mod Settles
+pub mod Spread
+pub mod SpreadStep
+pub mod WalkLaws

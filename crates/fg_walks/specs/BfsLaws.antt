@@ -7,14 +7,14 @@ use Rattle.fg_model.specs.Program.{IsShownInRange, IsLawful}
 use Rattle.fg_walks.specs.Bfs.{bfs, none}
 
 -- the lesser of three, in either order
-min-swap : (a x y : ℕ) → min (min a x) y ≡ min (min a y) x
+pub min-swap : (a x y : ℕ) → min (min a x) y ≡ min (min a y) x
 min-swap a x y = omega arith
 
-opening-fits : (b : Bool) → (if b then 0 else none) < 2 ^ 64
+pub opening-fits : (b : Bool) → (if b then 0 else none) < 2 ^ 64
 opening-fits true = lit< tt
 opening-fits false = lit< tt
 
-shown-fits : (b : Bool) (level : ℕ) → level < 2 ^ 64 → IsShownInRange (if b then Absent else One level)
+pub shown-fits : (b : Bool) (level : ℕ) → level < 2 ^ 64 → IsShownInRange (if b then Absent else One level)
 shown-fits true level fits = tt
 shown-fits false level fits = fits
 

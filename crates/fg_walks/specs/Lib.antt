@@ -1,2 +1,5 @@
 pub mod Bfs
 pub mod BfsLaws
+pub mod Sssp
+pub mod SsspLaws
+pub mod Walks

@@ -1,6 +1,7 @@
 //! Levels from a source.
 
 ghost use Rattle.fg_walks.specs.Bfs.{bfs};
+ghost use Rattle.fg_walks.specs.Walks.{LevelsAreLeastLengths, MakesWholeSums};
 
 use fg_base::{Dir, Entry, Need, Tally, VState, Value};
 use fg_model::Program;
@@ -63,6 +64,17 @@ impl Program for Bfs {
     }
 }
 
+impl Bfs {
+    /// What the values mean: after a settled run of this program, on any graph within the limits, a vertex's value is
+    /// absent exactly where no walk leads to it from the source, and is else the least length of such a walk. No
+    /// message of a run stops at 2^64 - 1: what nothing has reached sends none, and a level is at most the number of
+    /// iterations. A call does nothing when it runs; it gives its caller these laws.
+    pub fn levels_are_least_lengths(self)
+        ensures law { LevelsAreLeastLengths self.source }
+        ensures whole { MakesWholeSums (λ entry. 1) (bfs self.source) }
+    {}
+}
+
 #[cfg(test)]
 mod tests {
     use super::*;
@@ -106,6 +118,7 @@ mod tests {
         let run = plain_run(alloc, &graph, &Bfs { source: 0 }, 9, &mut watch, &mut tally);
         let Ok(end) = run else { panic!(rt; "no end") };
         assert!(rt; end.settled);
+        Bfs { source: 0 }.levels_are_least_lengths();
         assert_eq!(rt; end.iterations, 4);
         assert_eq!(rt; end.states.len(), 5);
         for (state, level) in end.states.as_slice().iter().zip([0, 1, 1, 2, 3]) {

@@ -1,0 +1,5 @@
+pub mod Degrees
+pub mod DegreesParts
+pub mod Direction
+pub mod DirectionFault
+pub mod ImageIndex
