@@ -2,8 +2,8 @@
 use Rattle.std.specs.Prelude.{◌≡◌, ℕ, Bool, List, Result, Ok, Err, ◌+◌, ◌*◌, nat_lt, length, take, drop, sum, slice_index, if◌then◌else◌}
 use Rattle.fg_base.specs.declared.plain.Dir.{Dir}
 use Rattle.fg_base.specs.declared.plain.Dir.TheVariants.{Out, In}
-use Rattle.fg_index.specs.declared.fault.IndexFault.{IndexFault}
-use Rattle.fg_index.specs.declared.fault.IndexFault.TheVariants.{Memory, BadIndex}
+use Rattle.fg_base.specs.declared.refusal.Refusal.{Refusal}
+use Rattle.fg_base.specs.declared.refusal.Refusal.TheVariants.{Memory, BadIndex}
 use Rattle.fg_index.specs.declared.span.Span.{Span}
 use Rattle.fg_index.specs.Direction.{direction_len, direction_at}
 
@@ -53,7 +53,8 @@ index_at n outs ins bytes =
     let end = middle + direction_len n (drop middle bytes) in
     ended end bytes (both (placed Out 0 (direction_at n outs bytes)) (placed In middle (direction_at n ins (drop middle bytes))))
 
--- the fault is the one that was found; want of memory has no cause here
-abbrev pub IsFaultOf : {X : Type 0} → Result X (Dir × ℕ) → IndexFault → Type 0
+-- the refusal is the fault that was found; want of memory has no cause here, and no other refusal comes
+abbrev pub IsFaultOf : {X : Type 0} → Result X (Dir × ℕ) → Refusal → Type 0
 IsFaultOf found Memory = Unit {0}
 IsFaultOf found (BadIndex dir place) = found ≡ Err (dir, place)
+IsFaultOf found refusal = ⊥

@@ -7,10 +7,9 @@ ghost use Rattle.fg_base.specs.declared.limits.TheConstants.{MAX_VERTICES};
 
 use crate::degrees::Degrees;
 use crate::direction::{DirectionFault, read_direction};
-use crate::fault::IndexFault;
 use crate::span::Span;
-use fg_base::Dir;
 use fg_base::limits::MAX_VERTICES;
+use fg_base::{Dir, Refusal};
 use std::alloc::Global;
 use std::marker::Model;
 
@@ -36,13 +35,13 @@ impl Model for Index {
 }
 
 /// The fault of a direction that begins at `start`.
-fn placed(fault: DirectionFault, dir: Dir, start: usize) -> IndexFault
+fn placed(fault: DirectionFault, dir: Dir, start: usize) -> Refusal
     requires { start < 2 ^ 63 }
     ensures { result ≡ index_fault dir start fault }
 {
     match fault {
-        DirectionFault::Memory => IndexFault::Memory,
-        DirectionFault::At(place) => IndexFault::BadIndex(dir, start as u64 + u64::from(place)),
+        DirectionFault::Memory => Refusal::Memory,
+        DirectionFault::At(place) => Refusal::BadIndex(dir, start as u64 + u64::from(place)),
     }
 }
 
@@ -64,7 +63,7 @@ impl Index {
         weighted: bool,
         out_entries: u64,
         in_entries: u64,
-    ) -> Result<Index, IndexFault>
+    ) -> Result<Index, Refusal>
         requires { n ≤ MAX_VERTICES }
         ensures found { IfOk result (λ index. index_at n out_entries in_entries bytes.now ≡ Ok (index.outs, index.ins)) }
         ensures weighted { IfOk result (λ index. index.weighted ≡ weighted) }
@@ -85,7 +84,7 @@ impl Index {
         };
         let end = middle + ins.len;
         if end < bytes.len() {
-            return Err(IndexFault::BadIndex(Dir::In, end as u64));
+            return Err(Refusal::BadIndex(Dir::In, end as u64));
         }
         Ok(Index {
             n,

@@ -8,13 +8,11 @@
 mod below;
 mod degrees;
 mod direction;
-mod fault;
 mod index;
 mod low;
 mod span;
 #[cfg(test)]
 mod tests;
 
-pub use fault::IndexFault;
 pub use index::Index;
 pub use span::Span;

@@ -1,7 +1,7 @@
 //! Indexes written by hand: whole ones, and each fault in both directions.
 
-use crate::{Index, IndexFault, Span};
-use fg_base::Dir;
+use crate::{Index, Span};
+use fg_base::{Dir, Refusal};
 use std::alloc::{AllocError, Global};
 use std::test::Fail;
 
@@ -14,7 +14,7 @@ const WHOLE: [u8; 21] = [
 const LEN: usize = 20;
 
 /// The fault with one byte changed, where so many bytes are given.
-fn fault_with(alloc: Global, len: usize, place: usize, byte: u8) -> Option<IndexFault> {
+fn fault_with(alloc: Global, len: usize, place: usize, byte: u8) -> Option<Refusal> {
     let mut bytes = WHOLE;
     if place < bytes.len() {
         bytes[place] = byte;
@@ -50,7 +50,7 @@ fn faults_have_their_places(rt: HostRuntime) {
     for (len, place, byte, dir, fault) in cases {
         assert_eq!(rt;
             fault_with(rt.alloc(), len, place, byte),
-            Some(IndexFault::BadIndex(dir, fault))
+            Some(Refusal::BadIndex(dir, fault))
         );
     }
 }

@@ -23,7 +23,7 @@ use Rattle.fg_model.specs.VertexRun.{Message, edges_from, edges_of, message_alon
 use Rattle.fg_model.specs.Plain.{sent_from}
 
 -- `folded` of the states from the vertex k on
-abbrev folded_from : ℕ → Rules → List Message → List VState → List VState
+abbrev pub folded_from : ℕ → Rules → List Message → List VState → List VState
 folded_from k P messages states = map (λ (v, s). fold P.receive s (sent_to v messages)) (enumerate_from k states)
 
 test_same : (x y : ℕ) → x ≡ y → (x == y) ≡ true

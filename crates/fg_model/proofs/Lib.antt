@@ -1,4 +1,5 @@
 pub mod IterationLemmas
+pub mod MailLemmas
 pub mod PlainLemmas
 pub mod RunLemmas
 pub mod StandLemmas

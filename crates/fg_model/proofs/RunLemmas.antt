@@ -1,5 +1,5 @@
 -- A run, step by step: what is said of it once so many iterations are finished.
-use Rattle.std.proofs.Common.{◌≡◌, ℕ, zero, suc, ◌+◌, ◌-◌, ◌<◌, ◌≤◌, Option, None, Some, Result, List, [], ◌∷◌, ◌++◌, length, take, drop, map, refl, ap, sym, subst, ◌∙◌, arith, lit<}
+use Rattle.std.proofs.Common.{◌≡◌, ℕ, zero, suc, ◌+◌, ◌-◌, ◌<◌, ◌≤◌, Option, None, Some, Result, Ok, List, [], ◌∷◌, ◌++◌, length, take, drop, map, refl, ap, sym, subst, ◌∙◌, arith, lit<}
 use Rattle.std.specs.Prelude.{Contains}
 use Rattle.std.proofs.lemmas.List.{append-nil, append_assoc, length-append, map-append}
 use Rattle.std.proofs.lemmas.List.Elements.{Contains-append_left, Contains-append_right}
@@ -13,6 +13,7 @@ use Rattle.fg_base.proofs.ToldLemmas.{grown-nil, grown-grown}
 use Rattle.fg_model.specs.declared.graph.Graph.{Graph}
 use Rattle.fg_model.specs.declared.run.End.{End}
 use Rattle.fg_model.specs.declared.run.RunFault.{RunFault}
+use Rattle.fg_model.specs.declared.stand.Stand.{Stand}
 use Rattle.fg_model.specs.declared.stand.Stand.TheVariants.{Begins, Rests}
 use Rattle.fg_model.specs.declared.watch.IterLine.{IterLine}
 use Rattle.fg_model.specs.declared.iteration.Iteration.{Iteration}
@@ -21,8 +22,8 @@ use Rattle.fg_model.specs.declared.iteration.IterFault.TheVariants as Iter
 use Rattle.fg_model.specs.Engine.{IsFirstOf, MatchIterFault, MatchRunFault, run_fault_of}
 use Rattle.fg_model.specs.Iteration.{Begun, IsIteration, after, begun_at, first_bad}
 use Rattle.fg_model.specs.Program.{Rules}
-use Rattle.fg_model.specs.Run.{Ending, Settled, Stopped, Refused, Finished, Run, answer_at, answer_of, begun_last, begun_of, ended, entries_of, led, opening_states, run, run_from, runs_of, stand}
-use Rattle.fg_model.specs.Watch.{ShownAll, ShownPart, ShownSome, line_of, told_of}
+use Rattle.fg_model.specs.Run.{Ending, Settled, Stopped, Refused, Finished, Run, answer_at, answer_of, begun_last, begun_of, ended, entries_of, last_end, led, opening_states, run, run_from, runs_of, stand}
+use Rattle.fg_model.specs.Watch.{Grew, ShownAll, ShownPart, ShownSome, line_at, line_of, told_of}
 
 -- one iteration, finished
 abbrev pub finished_at : Rules → Graph → ℕ → ℕ → List VState → Finished
@@ -153,10 +154,6 @@ known_opening P graph most told states old runs entries is = record {
   entries_grew = omega arith;
 }
 
--- the line that the code makes
-abbrev pub line_at : ℕ → ℕ → Iteration → IterLine
-line_at number phase iteration = record { number = number; phase = phase; active = iteration.active; messages = iteration.messages }
-
 line_is : (P : Rules) (graph : Graph) (number begins : ℕ) (states : List VState) (iteration : Iteration) → IsIteration P graph begins states iteration
     → line_at number begins iteration ≡ line_of (finished_at P graph number begins states)
 unfolding begun_at
@@ -254,6 +251,19 @@ known_over P graph most told done number phase last states ending old new runs_o
       entries_grew = known.entries_grew ∙ ap (λ (d : List Finished). entries_old + entries_of d) (sym all);
     }
 
+-- with no iteration left it ends as it stands
+pub known_last : {N : Type 0} (P : Rules) (graph : Graph) (most : ℕ) (told : IterLine → List VState → List N) (done : List Finished) (number phase : ℕ) (states : List VState) (old new : Option (List N)) (runs_old runs entries_old entries : ℕ) (last : Stand)
+    → Known P graph most told done number phase states old new runs_old runs entries_old entries → most ≤ number → stand P phase states ≡ last
+    → Over P graph most told done (Ok (last_end number states last)) old new runs_old runs entries_old entries
+known_last P graph most told done number phase states old new runs_old runs entries_old entries (Rests last) known full is =
+    known_over P graph most told done number phase last states Settled old new runs_old runs entries_old entries known (at_rest P graph most done number phase last states known.is_at is)
+known_last P graph most told done number phase states old new runs_old runs entries_old entries (Begins last) known full is =
+    known_over P graph most told done number phase last states Stopped old new runs_old runs entries_old entries known (at_stop P graph most done number phase last states known.is_at full is)
+
+pub states-last_end : (number : ℕ) (states : List VState) (last : Stand) → (last_end number states last).states ≡ states
+states-last_end number states (Rests phase) = refl
+states-last_end number states (Begins phase) = refl
+
 -- what was read is what some first iterations may read
 pub first_begun : (begun done rest : List Begun) (all : List Begun) → begun ≡ done → all ≡ done ++ rest → IsFirstOf begun all
 first_begun begun done rest all is whole = (length done, is ∙ sym (ap (take (length done)) whole ∙ take-append_seam done rest))
@@ -273,8 +283,8 @@ pub bad_moved : (P : Rules) (graph same_graph : Graph) (phase : ℕ) (states sam
     → first_bad P graph phase states ≡ Some bad → first_bad P same_graph phase same_states ≡ Some bad
 bad_moved P graph same_graph phase states same_states bad is_graph is_states is = cc
 
-pub told_moved : {N : Type 0} (told same_told : IterLine → List VState → List N) (line : IterLine) (states same_states : List VState) → told ≡ same_told → states ≡ same_states → told line states ≡ same_told line same_states
-told_moved {N = N} told same_told line states same_states is_told is_states = ap (λ (t : IterLine → List VState → List N). t line states) is_told ∙ ap (same_told line) is_states
+pub told_moved : {N : Type 0} (told same_told : IterLine → List VState → List N) (line : IterLine) (states : List VState) → told ≡ same_told → told line states ≡ same_told line states
+told_moved {N = N} told same_told line states is_told = ap (λ (t : IterLine → List VState → List N). t line states) is_told
 
 pub begun_moved : (P : Rules) (graph same_graph : Graph) (phase : ℕ) (states same_states : List VState) → graph ≡ same_graph → states ≡ same_states → begun_at P graph phase states ≡ begun_at P same_graph phase same_states
 begun_moved P graph same_graph phase states same_states is_graph is_states = cc
@@ -300,3 +310,10 @@ as_run_fault (Iter.BadEdge edge) on_memory on_watch drive on_drive bad on_bad me
 pub shown_none : {N : Type 0} (told : IterLine → List VState → List N) (finished : List Finished) (old : Option (List N)) → ShownSome told finished old old
 unfolding told_of
 shown_none told finished old = (0, sym (grown-nil old))
+
+-- nothing noted, and one growth after another
+pub grew_none : {N : Type 0} (old : Option (List N)) → Grew old old
+grew_none old = ([], sym (grown-nil old))
+
+pub grew_more : {N : Type 0} (old middle new : Option (List N)) (more : List N) → Grew old middle → new ≡ grown middle more → Grew old new
+grew_more {N} old middle new more (first, grew) next = (first ++ more, next ∙ ap (λ (o : Option (List N)). grown o more) grew ∙ grown-grown old first more)

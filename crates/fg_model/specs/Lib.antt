@@ -1,3 +1,4 @@
+pub mod Edges
 pub mod Engine
 pub mod Graph
 pub mod Iteration

@@ -106,6 +106,11 @@ abbrev pub from_last_stand : ℕ → List VState → Stand → Run
 from_last_stand number states (Rests phase) = ended Settled number phase states
 from_last_stand number states (Begins phase) = ended Stopped number phase states
 
+-- the end of a run with no iteration left, from a stand on
+abbrev pub last_end : ℕ → List VState → Stand → End
+last_end number states (Rests phase) = record { settled = true; iterations = number; phase = phase; states = states }
+last_end number states (Begins phase) = record { settled = false; iterations = number; phase = phase; states = states }
+
 -- a run with so many iterations left, so many done, and a phase and states
 unfoldable pub run_from : Rules → Graph → ℕ → ℕ → ℕ → List VState → Run
 run_from P graph zero number phase states = from_last_stand number states (stand P phase states)

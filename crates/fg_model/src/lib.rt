@@ -6,6 +6,7 @@
 //! `Engine`, and `run_engine` makes a whole run of it.
 #![tactic(auto)]
 
+mod edges;
 mod engine;
 mod graph;
 mod iteration;
@@ -16,6 +17,7 @@ mod stand;
 mod vec_watch;
 mod watch;
 
+pub use edges::{Edges, Pair};
 pub use engine::Engine;
 pub use graph::Graph;
 pub use iteration::{IterFault, Iteration};

@@ -1,14 +1,14 @@
 //! The run in memory, which everything faster is measured against.
 
-ghost use Rattle.std.specs.Prelude.{◌≡◌, ◌+◌, ◌<◌, ◌≤◌, ◌^◌, ◌∷◌, ℕ, true, None, Some, Ok, Err, List, [], find, length, map, IfErr, IfOk, OnOk, All, vec_len};
+ghost use Rattle.std.specs.Prelude.{◌≡◌, ◌+◌, ◌<◌, ◌≤◌, ◌^◌, ◌∷◌, ℕ, true, None, Some, Ok, Err, List, [], find, length, map, slice_set, IfErr, IfOk, OnOk, All, vec_len};
 ghost use Rattle.fg_base.specs.Faults.{Rose};
 ghost use Rattle.fg_model.specs.declared.run.RunFault.{RunFault};
-ghost use Rattle.fg_model.specs.Engine.{MatchRunFault};
+ghost use Rattle.fg_model.specs.Engine.{MatchIterFault, MatchRunFault};
 ghost use Rattle.fg_model.specs.Graph.{IsWithinLimits};
-ghost use Rattle.fg_model.specs.Iteration.{folded, is_bad, states_after_runs};
+ghost use Rattle.fg_model.specs.Iteration.{AreStates, IsIteration, first_bad, folded, is_bad, state_at, states_after_runs};
 ghost use Rattle.fg_model.specs.Plain.{all_active, edges_over, messages_over, sent_from};
 ghost use Rattle.fg_model.specs.Run.{answer_of, entries_of, opening_states, run, runs_of};
-ghost use Rattle.fg_model.specs.Watch.{ShownAll, ShownPart, ShownSome};
+ghost use Rattle.fg_model.specs.Watch.{Grew, ShownAll, ShownPart, ShownSome};
 ghost use Rattle.fg_model.specs.VertexRun.{edges_from, edges_of, message_along};
 
 use crate::engine::Engine;
@@ -34,6 +34,25 @@ struct Runs {
     active: Vec<Active>,
 }
 
+/// Begins the run of one active vertex: its own new state, and the carry that it sends with.
+fn begin_one<P: Program, T: Tally>(
+    program: &P,
+    phase: u64,
+    v: u32,
+    s: VState,
+    tally: &mut T,
+) -> (VState, Active)
+    requires awake { (P.rules program.now).wake phase s ≡ true }
+    requires room { T.runs tally.old + 1 < 2 ^ 64 }
+    ensures state { result.0 ≡ ((P.rules program.now).begin phase v s).0 }
+    ensures active { result.1 ≡ record { v = v; carry = ((P.rules program.now).begin phase v s).1 } }
+    ensures runs { T.runs tally.new ≡ T.runs tally.old + 1 }
+    ensures entries { T.entries tally.new ≡ T.entries tally.old }
+{
+    let (state, carry) = program.begin(phase, v, s, tally);
+    (state, Active { v, carry })
+}
+
 /// Begins the run of each active vertex, on the states as they stand.
 fn begin_runs<P: Program, T: Tally>(
     alloc: Global,
@@ -57,14 +76,34 @@ fn begin_runs<P: Program, T: Tally>(
             next.push(s)?;
             continue;
         }
-        let (state, carry) = program.begin(phase, v as u32, s, tally);
+        let (state, begun) = begin_one(program, phase, v as u32, s, tally);
         next.push(state)?;
-        active.push(Active { v: v as u32, carry })?;
+        active.push(begun)?;
     }
     Ok(Runs {
         states: next,
         active,
     })
+}
+
+/// Folds the message along one entry into its target.
+fn send_one<P: Program, T: Tally>(
+    program: &P,
+    from: Active,
+    dir: Dir,
+    entry: Entry,
+    states: &mut [VState],
+    tally: &mut T,
+)
+    requires vertex { entry.target < length states.old }
+    requires room { T.entries tally.old + 1 < 2 ^ 64 }
+    ensures states { states.new ≡ slice_set states.old entry.target ((P.rules program.now).receive (state_at states.old entry.target) ((P.rules program.now).edge from.carry dir entry)) }
+    ensures runs { T.runs tally.new ≡ T.runs tally.old }
+    ensures entries { T.entries tally.new ≡ T.entries tally.old + 1 }
+{
+    let target = entry.target as usize;
+    let m = program.edge(from.carry, dir, entry, tally);
+    states[target] = program.receive(states[target], m);
 }
 
 /// Folds in a message along each entry of one list of an active vertex, up to the first bad edge.
@@ -85,8 +124,7 @@ fn send_along<P: Program, T: Tally>(
     ensures err { IfErr result (λ bad. find (is_bad (length states.old)) (edges_from from.v dir 0 entries.now) ≡ Some bad) }
 {
     for (place, entry) in entries.iter().enumerate() {
-        let target = entry.target as usize;
-        if target >= states.len() {
+        if entry.target as usize >= states.len() {
             return Err(BadEdge {
                 v: from.v,
                 dir,
@@ -94,8 +132,7 @@ fn send_along<P: Program, T: Tally>(
                 found: entry.target,
             });
         }
-        let m = program.edge(from.carry, dir, *entry, tally);
-        states[target] = program.receive(states[target], m);
+        send_one(program, from, dir, *entry, states, tally);
     }
     Ok(())
 }
@@ -167,6 +204,48 @@ fn deliver<P: Program, T: Tally>(
     Ok(messages)
 }
 
+/// One iteration on a graph in memory. It keeps the carry of each active vertex, and walks its lists again once all
+/// runs began: a vector of all messages would take 16 bytes for each.
+fn iterate_in_memory<P: Program, T: Tally>(
+    alloc: Global,
+    program: &P,
+    graph: &Graph,
+    phase: u64,
+    states: &[VState],
+    tally: &mut T,
+) -> Result<Iteration, IterFault>
+    requires within { IsWithinLimits graph.now }
+    requires are_states { AreStates graph.now.n states.now }
+    requires room_of_runs { T.runs tally.old + 2 ^ 24 < 2 ^ 64 }
+    requires room_of_entries { T.entries tally.old + 2 ^ 27 < 2 ^ 64 }
+    ensures ok { IfOk result (λ iteration. IsIteration (P.rules program.now) graph.now phase states.now iteration) }
+    ensures ok_states { IfOk result (λ iteration. AreStates graph.now.n iteration.states) }
+    ensures ok_active { IfOk result (λ iteration. iteration.active ≤ 2 ^ 24) }
+    ensures ok_messages { IfOk result (λ iteration. iteration.messages ≤ 2 ^ 27) }
+    ensures ok_runs { IfOk result (λ iteration. T.runs tally.new ≡ T.runs tally.old + iteration.active) }
+    ensures ok_entries { IfOk result (λ iteration. T.entries tally.new ≡ T.entries tally.old + iteration.messages) }
+    ensures bad_edge { IfErr result (λ fault. MatchIterFault fault (λ drive. ⊥) (λ bad. first_bad (P.rules program.now) graph.now phase states.now ≡ Some bad)) }
+{
+    let Runs {
+        states: mut next,
+        active,
+    } = begin_runs(alloc, program, phase, states, tally)?;
+    let need = program.need();
+    let messages = deliver(
+        program,
+        need,
+        graph,
+        active.as_slice(),
+        next.as_mut_slice(),
+        tally,
+    )?;
+    Ok(Iteration {
+        states: Items::from_vec(next),
+        active: active.len() as u64,
+        messages,
+    })
+}
+
 /// An engine over a graph in memory. It reads nothing, so no drive can fail, and it knows its graph.
 #[derive(Drop)]
 struct PlainEngine<'a> {
@@ -198,8 +277,6 @@ impl<P: Program, T: Tally> Engine<P, T> for PlainEngine<'_> {
 
     ghost did_more = { λ first middle last rules begun next did more. tt };
 
-    /// Keeps the carry of each active vertex, and walks its lists again once all runs began: a vector of all messages
-    /// would take 16 bytes for each.
     fn iterate(
         &mut self,
         alloc: Global,
@@ -208,24 +285,7 @@ impl<P: Program, T: Tally> Engine<P, T> for PlainEngine<'_> {
         states: &[VState],
         tally: &mut T,
     ) -> Result<Iteration, IterFault> {
-        let Runs {
-            states: mut next,
-            active,
-        } = begin_runs(alloc, program, phase, states, tally)?;
-        let need = program.need();
-        let messages = deliver(
-            program,
-            need,
-            self.graph,
-            active.as_slice(),
-            next.as_mut_slice(),
-            tally,
-        )?;
-        Ok(Iteration {
-            states: Items::from_vec(next),
-            active: active.len() as u64,
-            messages,
-        })
+        iterate_in_memory(alloc, program, self.graph, phase, states, tally)
     }
 }
 
@@ -258,12 +318,14 @@ pub fn plain_run<P: Program, W: Watch, T: Tally>(
     tally: &mut T,
 ) -> Result<End, RunFault>
     requires within { IsWithinLimits graph.now }
-    requires some { 1 ≤ max }
     requires room_of_runs { T.runs tally.old + 2 ^ 56 ≤ 2 ^ 64 }
     requires room_of_entries { T.entries tally.old + 2 ^ 59 ≤ 2 ^ 64 }
     ensures same_told { W.told watch.new ≡ W.told watch.old }
+    ensures same_borrows { W.same_borrows watch.old watch.new }
+    ensures grew { Grew (W.notes watch.old) (W.notes watch.new) }
     // of a run with an end
     ensures ok { IfOk result (λ end. answer_of (run (P.rules program.now) graph.now max) ≡ Ok end) }
+    ensures ok_states { IfOk result (λ end. AreStates graph.now.n end.states) }
     ensures ok_watch { OnOk result (W.faults watch.new ≡ W.faults watch.old) }
     ensures ok_shown { OnOk result (ShownAll (W.told watch.old) (run (P.rules program.now) graph.now max).finished (W.notes watch.old) (W.notes watch.new)) }
     ensures ok_runs { OnOk result (T.runs tally.new ≡ T.runs tally.old + runs_of (run (P.rules program.now) graph.now max).finished) }

@@ -1,16 +1,17 @@
 //! A whole run, whatever runs its iterations.
 
-ghost use Rattle.std.specs.Prelude.{◌≡◌, ℕ, ◌+◌, ◌<◌, ◌≤◌, ◌^◌, true, Ok, Err, List, Contains, IfErr, IfOk, OnOk};
-ghost use Rattle.fg_base.specs.Faults.{Rose};
+ghost use Rattle.std.specs.Prelude.{◌≡◌, ℕ, ◌+◌, ◌<◌, ◌≤◌, ◌^◌, true, Ok, Err, List, Contains, IfErr, IfOk, OnErr, OnOk};
+ghost use Rattle.fg_base.specs.Faults.{Counts, Rose};
+ghost use Rattle.fg_base.specs.Told.{GrewByFirst, grown};
 ghost use Rattle.fg_model.specs.declared.run.RunFault.{RunFault};
 ghost use Rattle.fg_model.specs.Engine.{IsFirstOf, MatchRunFault, run_fault_of};
 ghost use Rattle.fg_model.specs.Iteration.{AreStates, Begun};
 ghost use Rattle.fg_model.specs.Program.{Rules};
-ghost use Rattle.fg_model.specs.Run.{answer_of, begun_of, entries_of, opening_states, run, runs_of};
-ghost use Rattle.fg_model.specs.Watch.{ShownAll, ShownPart, ShownSome};
+ghost use Rattle.fg_model.specs.Run.{answer_of, begun_of, entries_of, last_end, opening_states, run, runs_of, stand};
+ghost use Rattle.fg_model.specs.Watch.{Grew, ShownAll, ShownPart, ShownSome, line_at};
 
 use crate::engine::Engine;
-use crate::iteration::IterFault;
+use crate::iteration::{IterFault, Iteration};
 use crate::program::Program;
 use crate::stand::{Stand, find_stand};
 use crate::watch::{IterLine, Watch};
@@ -82,7 +83,6 @@ pub fn run_engine<P: Program, E: Engine<P, T>, W: Watch, T: Tally>(
     requires is_ready { E.ready engine.old }
     requires opening { states.items ≡ opening_states (P.rules program.now) (E.graph engine.old) }
     requires are_states { AreStates (E.graph engine.old).n states.items }
-    requires some { 1 ≤ max }
     requires is_allowed { (begun : Begun) → (E.knows engine.old ≡ true → Contains (begun_of (run (P.rules program.now) (E.graph engine.old) max)) begun) → E.allows engine.old (P.rules program.now) begun }
     requires room_of_runs { T.runs tally.old + 2 ^ 56 ≤ 2 ^ 64 }
     requires room_of_entries { T.entries tally.old + 2 ^ 59 ≤ 2 ^ 64 }
@@ -92,6 +92,8 @@ pub fn run_engine<P: Program, E: Engine<P, T>, W: Watch, T: Tally>(
     ensures still_allows { (rules : Rules) (begun : Begun) → E.allows engine.old rules begun → E.allows engine.new rules begun }
     ensures has_read { (begun : List Begun) × (E.did engine.old engine.new (P.rules program.now) begun) × (E.knows engine.old ≡ true → IsFirstOf begun (begun_of (run (P.rules program.now) (E.graph engine.old) max))) }
     ensures same_told { W.told watch.new ≡ W.told watch.old }
+    ensures same_borrows { W.same_borrows watch.old watch.new }
+    ensures grew { Grew (W.notes watch.old) (W.notes watch.new) }
     // of a run with an end
     ensures ok { IfOk result (λ end. E.knows engine.old ≡ true → answer_of (run (P.rules program.now) (E.graph engine.old) max) ≡ Ok end) }
     ensures ok_states { IfOk result (λ end. AreStates (E.graph engine.old).n end.states) }
@@ -130,27 +132,50 @@ pub fn run_engine<P: Program, E: Engine<P, T>, W: Watch, T: Tally>(
             Stand::Begins(begins) => phase = begins,
         }
         let iteration = engine.iterate(alloc, program, phase, states.as_slice(), tally)?;
+        note_iteration(watch, number, phase, &iteration)?;
         states = iteration.states;
-        let line = IterLine {
-            number,
-            phase,
-            active: iteration.active,
-            messages: iteration.messages,
-        };
-        watch.note(line, states.as_slice())?;
     }
+    Ok(end_after(program, max, phase, states))
+}
+
+/// Shows the watch a finished iteration.
+fn note_iteration<W: Watch>(
+    watch: &mut W,
+    number: u32,
+    phase: u64,
+    iteration: &Iteration,
+) -> Result<(), Failed>
+    ensures told { W.told watch.new ≡ W.told watch.old }
+    ensures same_borrows { W.same_borrows watch.old watch.new }
+    ensures faults { Counts (W.faults watch.old) (W.faults watch.new) result }
+    ensures ok { OnOk result (W.notes watch.new ≡ grown (W.notes watch.old) (W.told watch.old (line_at number phase iteration.now) iteration.now.states)) }
+    ensures err { OnErr result (GrewByFirst (W.told watch.old (line_at number phase iteration.now) iteration.now.states) (W.notes watch.old) (W.notes watch.new)) }
+{
+    let line = IterLine {
+        number,
+        phase,
+        active: iteration.active,
+        messages: iteration.messages,
+    };
+    watch.note(line, iteration.states.as_slice())
+}
+
+/// The end of a run with no iteration left: it settled where nothing is left to do.
+fn end_after<P: Program>(program: &P, iterations: u32, phase: u64, states: Items<VState>) -> End
+    ensures { result ≡ last_end iterations states (stand (P.rules program.now) phase states) }
+{
     match find_stand(program, phase, states.as_slice()) {
-        Stand::Rests(rests) => Ok(End {
+        Stand::Rests(rests) => End {
             settled: true,
-            iterations: max,
+            iterations,
             phase: rests,
             states,
-        }),
-        Stand::Begins(begins) => Ok(End {
+        },
+        Stand::Begins(begins) => End {
             settled: false,
-            iterations: max,
+            iterations,
             phase: begins,
             states,
-        }),
+        },
     }
 }

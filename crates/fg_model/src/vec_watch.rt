@@ -65,6 +65,12 @@ impl Watch for VecWatch {
 
     ghost faults = { λ watch. watch.faults };
 
+    ghost same_borrows = { λ _ _. Unit {0} };
+
+    ghost same_borrows_none = { λ _. tt };
+
+    ghost same_borrows_more = { λ _ _ _ _ _. tt };
+
     fn note(&mut self, line: IterLine, states: &[VState]) -> Result<(), Failed> {
         self.calls = self.calls.saturating_add(1);
         if self.fails.contains(&self.calls) {

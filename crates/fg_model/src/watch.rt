@@ -29,11 +29,19 @@ pub trait Watch {
     ghost told: { Self → IterLine → List VState → List Self.Note };
     /// The count of faults; it never falls.
     ghost faults: { Self → ℕ };
+    /// From the first value to the second it holds the same borrows. No call changes them, so that whoever lent it one
+    /// knows what became of what was lent.
+    ghost same_borrows: { Self → Self → Type 0 };
 
     /// Shows an iteration's line and the states after it. After `Failed` some first notes of it may have been taken.
     fn note(&mut self, line: IterLine, states: &[VState]) -> Result<(), Failed>
         ensures told { told self.new ≡ told self.old }
+        ensures same_borrows { same_borrows self.old self.new }
         ensures faults { Counts (faults self.old) (faults self.new) result }
         ensures ok { OnOk result (notes self.new ≡ grown (notes self.old) (told self.old line states.now)) }
         ensures err { OnErr result (GrewByFirst (told self.old line states.now) (notes self.old) (notes self.new)) };
+
+    ghost same_borrows_none: { (watch : Self) → same_borrows watch watch };
+
+    ghost same_borrows_more: { (first middle last : Self) → same_borrows first middle → same_borrows middle last → same_borrows first last };
 }

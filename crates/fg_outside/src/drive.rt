@@ -1,5 +1,5 @@
 // A drive of pages.
-ghost use Rattle.std.specs.Prelude.{◌≡◌, ◌<◌, ◌≤◌, ◌+◌, ◌*◌, ◌%◌, ◌^◌, ℕ, List, [], ◌∷◌, Option, length, IfOk, OnOk, OnErr, IfSome, IsSome, IsOk};
+ghost use Rattle.std.specs.Prelude.{◌≡◌, ◌<◌, ◌≤◌, ◌+◌, ◌*◌, ◌%◌, ◌^◌, ℕ, List, [], ◌∷◌, Option, length, IfOk, OnOk, OnErr, IfSome, IsSome, IsOk, All};
 ghost use Rattle.fg_base.specs.Faults.{Counts};
 ghost use Rattle.fg_outside.specs.Log.{read_of};
 ghost use Rattle.fg_outside.specs.Pages.{page_count, pages_of, HasRoom, lessened};
@@ -85,4 +85,7 @@ pub trait Drive: Drop {
 
     /// What `pages` answered is still there, since bytes only come to the others.
     ghost told_held: { (drive : Self) → IfSome (held drive) (λ bytes. told drive ≤ page_count bytes) };
+
+    /// What is held are bytes.
+    ghost held_bytes: { (drive : Self) → IfSome (held drive) (λ bytes. All (λ byte. byte < 256) bytes) };
 }

@@ -103,6 +103,8 @@ impl Drive for FileDrive {
     ghost told_fits = { λ drive. drive.told_fits };
 
     ghost told_held = { λ _. tt };
+
+    ghost held_bytes = { λ _. tt };
 }
 
 #[cfg(test)]

@@ -6,21 +6,25 @@
 #![tactic(auto)]
 
 mod drive;
+mod drives;
 mod fault_count;
 mod file_drive;
 mod mem_drive;
 mod mem_sink;
 mod mem_source;
+mod room_drive;
 mod sink;
 mod source;
 mod std_sink;
 mod std_source;
 
 pub use drive::{Drive, Read};
+pub use drives::{count_pages, read_page};
 pub use file_drive::FileDrive;
 pub use mem_drive::{DriveOp, MEM_DRIVE_BYTES, MemDrive};
 pub use mem_sink::MemSink;
 pub use mem_source::MemSource;
+pub use room_drive::RoomDrive;
 pub use sink::{Sink, write_all};
 pub use source::Source;
 pub use std_sink::StdSink;

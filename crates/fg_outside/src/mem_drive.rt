@@ -1,5 +1,5 @@
 // A drive in memory.
-ghost use Rattle.std.specs.Prelude.{◌≡◌, ◌<◌, ◌≤◌, ◌^◌, [], Some, None, length, vec_len};
+ghost use Rattle.std.specs.Prelude.{◌≡◌, ◌<◌, ◌≤◌, ◌^◌, [], Some, None, All, length, vec_len};
 ghost use Rattle.fg_outside.specs.Pages.{page_count};
 ghost use Rattle.fg_outside.specs.declared.mem_drive.TheConstants.{MEM_DRIVE_BYTES};
 
@@ -35,6 +35,7 @@ pub struct MemDrive {
     ghost few: { length bytes.items < MEM_DRIVE_BYTES },
     ghost told_fits: { told < 2 ^ 32 },
     ghost told_held: { told ≤ page_count bytes.items },
+    ghost are_bytes: { All (λ byte. byte < 256) bytes.items },
 }
 
 impl MemDrive {
@@ -132,6 +133,8 @@ impl Drive for MemDrive {
     ghost told_fits = { λ drive. drive.told_fits };
 
     ghost told_held = { λ drive. drive.told_held };
+
+    ghost held_bytes = { λ drive. drive.are_bytes };
 }
 
 #[cfg(test)]

@@ -1,13 +1,13 @@
 // A sink in memory.
-ghost use Rattle.std.specs.Prelude.{◌≡◌, [], Some};
+ghost use Rattle.std.specs.Prelude.{◌≡◌, [], Some, IsOk};
 
 use crate::Sink;
 use crate::fault_count::FaultCount;
 use fg_base::Failed;
 use std::alloc::Global;
 
-/// A sink in memory, for tests. It tells the bytes written, of which a put takes all or none, and fails at the calls
-/// that it was told of when it was made and where its list can't grow.
+/// A sink in memory, for tests. It tells the bytes written, of which a put takes all or none, and fails at the puts
+/// that it was told of when it was made and where its list can't grow. A flush never fails.
 #[derive(Drop)]
 pub struct MemSink {
     written: Vec<u8>,
@@ -60,6 +60,13 @@ impl Sink for MemSink {
         }
         Ok(bytes.len())
     }
+
+    fn flush(&mut self) -> Result<(), Failed>
+        ensures same { self.new ≡ self.old }
+        ensures sure { IsOk result }
+    {
+        Ok(())
+    }
 }
 
 #[cfg(test)]
@@ -83,6 +90,8 @@ mod tests {
             assert_eq!(rt; write_all(&mut sink, line.as_bytes()), want);
             assert_eq!(rt; sink.written(), written.as_bytes());
         }
+        assert_eq!(rt; sink.flush(), Ok(()));
+        assert_eq!(rt; sink.written(), b"abef".as_slice());
         assert_eq!(rt; sink.faults(), 2);
         Ok(())
     }

@@ -23,6 +23,11 @@ pub trait Sink {
         ensures err { OnErr result (written self.new ≡ written self.old) }
 
         ensures counted { Counts (faults self.old) (faults self.new) result };
+
+    /// Hands on what the sink has gathered. Whoever writes last calls it, since what was written may still be kept back.
+    fn flush(&mut self) -> Result<(), Failed>
+        ensures written { written self.new ≡ written self.old }
+        ensures counted { Counts (faults self.old) (faults self.new) result };
 }
 
 /// Writes all the bytes. After a failure a first part of them was written.
@@ -59,6 +64,10 @@ mod tests {
 
         fn put(&mut self, bytes: &[u8]) -> Result<usize, Failed> {
             self.inner.put(&bytes[..bytes.len().min(2)])
+        }
+
+        fn flush(&mut self) -> Result<(), Failed> {
+            self.inner.flush()
         }
     }
 

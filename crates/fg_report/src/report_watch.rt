@@ -33,6 +33,8 @@ impl<'a, P: Program, K: Sink> ReportWatch<'a, P, K> {
 }
 
 impl<P: Program, K: Sink> Watch for ReportWatch<'_, P, K> {
+    ghost use Rattle.std.proofs.Common.{refl, ◌∙◌};
+
     type Note = u8;
 
     ghost notes = { λ watch. K.written watch.out.now };
@@ -40,6 +42,12 @@ impl<P: Program, K: Sink> Watch for ReportWatch<'_, P, K> {
     ghost told = { λ watch line states. iteration_text watch.each (P.rules watch.program.now).show line states };
 
     ghost faults = { λ watch. K.faults watch.out.now };
+
+    ghost same_borrows = { λ first last. last.out.ghost_name ≡ first.out.ghost_name };
+
+    ghost same_borrows_none = { λ watch. refl };
+
+    ghost same_borrows_more = { λ first middle last one other. other ∙ one };
 
     fn note(&mut self, line: IterLine, states: &[VState]) -> Result<(), Failed> {
         if let Err(failed) = write_iteration(self.out, line) {

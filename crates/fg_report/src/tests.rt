@@ -2,11 +2,14 @@
 
 ghost use Rattle.fg_base.specs.declared.plain.Need.TheVariants as Need;
 ghost use Rattle.fg_base.specs.declared.plain.Value.TheVariants.{One};
+ghost use Rattle.fg_base.specs.declared.refusal.Refusal.TheVariants.{OutputFault as output_fault};
+ghost use Rattle.std.specs.Prelude.{◌≢◌};
 
 use crate::*;
-use fg_base::{Dir, Entry, Failed, Need, Tally, VState, Value};
+use fg_base::{BadEdge, Dir, Entry, Failed, Need, Opt, Refusal, Tally, VState, Value, WordFault};
 use fg_model::{IterLine, Program, Watch};
 use fg_outside::MemSink;
+use std::alloc::Global;
 use std::test::Fail;
 
 /// A program whose vertices do nothing and show their number `a`.
@@ -132,4 +135,115 @@ fn what_a_watch_writes(rt: HostRuntime) -> Result<(), Fail> {
         assert_eq!(rt; out.written(), text.as_bytes());
     }
     Ok(())
+}
+
+/// Each refusal that isn't about the words, and its line.
+const REFUSALS: [(Refusal, &str); 22] = [
+    (Refusal::Memory, "refused: memory\n"),
+    (Refusal::Words(WordFault::Parse), "refused: words parse\n"),
+    (
+        Refusal::Words(WordFault::Command),
+        "refused: words command\n",
+    ),
+    (Refusal::InputFault, "refused: input failed\n"),
+    (Refusal::DriveFault(15), "refused: drive 15 failed\n"),
+    (
+        Refusal::BadLine(u64::MAX),
+        "refused: line 18446744073709551615 not an edge\n",
+    ),
+    (Refusal::IdTooLarge(2), "refused: line 2 id too large\n"),
+    (Refusal::TooManyEdges(3), "refused: line 3 too many edges\n"),
+    (Refusal::TextTooLong, "refused: text too long\n"),
+    (Refusal::NotEmpty(0), "refused: drive 0 not empty\n"),
+    (
+        Refusal::ShortDrive(0, 4, 5),
+        "refused: drive 0 has 4 pages, needs 5\n",
+    ),
+    (Refusal::NoLabel(1), "refused: drive 1 has no label\n"),
+    (
+        Refusal::WrongDrive(0, 1),
+        "refused: drive 0 is labelled 1\n",
+    ),
+    (Refusal::LabelDiffers(1), "refused: drive 1 label differs\n"),
+    (Refusal::BadHeader, "refused: bad header\n"),
+    (Refusal::BadVersion(3), "refused: version 3 unknown\n"),
+    (Refusal::BadSections, "refused: bad sections\n"),
+    (
+        Refusal::BadIndex(Dir::Out, 5),
+        "refused: bad out index at 5\n",
+    ),
+    (
+        Refusal::BadIndex(Dir::In, 9),
+        "refused: bad in index at 9\n",
+    ),
+    (Refusal::BadSource(5, 5), "refused: source 5 not below 5\n"),
+    (
+        Refusal::BadEdge(BadEdge {
+            v: 2,
+            dir: Dir::Out,
+            place: 0,
+            found: 5,
+        }),
+        "refused: vertex 2 out entry 0 target 5\n",
+    ),
+    (
+        Refusal::BadEdge(BadEdge {
+            v: 4_294_967_295,
+            dir: Dir::In,
+            place: 4_294_967_294,
+            found: 4_294_967_293,
+        }),
+        "refused: vertex 4294967295 in entry 4294967294 target 4294967293\n",
+    ),
+];
+
+/// Each option, and its line where its value isn't in range.
+const OPTIONS: [(Opt, &str); 15] = [
+    (Opt::Program, "refused: words range program\n"),
+    (Opt::Source, "refused: words range source\n"),
+    (Opt::Max, "refused: words range max\n"),
+    (Opt::Cut, "refused: words range cut\n"),
+    (Opt::Each, "refused: words range each\n"),
+    (Opt::Quiet, "refused: words range quiet\n"),
+    (Opt::Unit, "refused: words range unit\n"),
+    (Opt::Number, "refused: words range number\n"),
+    (Opt::Undirected, "refused: words range undirected\n"),
+    (Opt::Input, "refused: words range input\n"),
+    (Opt::Start, "refused: words range start\n"),
+    (Opt::Nodes, "refused: words range nodes\n"),
+    (Opt::Edges, "refused: words range edges\n"),
+    (Opt::Drives, "refused: words range drives\n"),
+    (Opt::Drive, "refused: words range drive\n"),
+];
+
+/// Whether the line of this refusal is this text.
+fn is_line(alloc: Global, refusal: &Refusal, text: &str) -> bool
+    requires { refusal.now ≢ output_fault }
+{
+    let mut out = MemSink::new(alloc, Vec::new(alloc));
+    write_refusal(&mut out, refusal).is_ok() && out.written() == text.as_bytes()
+}
+
+#[test]
+fn the_line_of_each_refusal(rt: HostRuntime) {
+    for (refusal, text) in REFUSALS {
+        if refusal != Refusal::OutputFault {
+            assert!(rt; is_line(rt.alloc(), &refusal, text), "{text}");
+        }
+    }
+}
+
+#[test]
+fn the_line_of_each_fault_of_an_option(rt: HostRuntime) {
+    let alloc = rt.alloc();
+    for (option, text) in OPTIONS {
+        assert!(rt;
+            is_line(alloc, &Refusal::Words(WordFault::Range(option)), text),
+            "{text}"
+        );
+    }
+    let extra = Refusal::Words(WordFault::Extra(Opt::Undirected));
+    assert!(rt; is_line(alloc, &extra, "refused: words extra undirected\n"));
+    let missing = Refusal::Words(WordFault::Missing(Opt::Source));
+    assert!(rt; is_line(alloc, &missing, "refused: words missing source\n"));
 }

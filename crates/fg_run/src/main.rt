@@ -27,8 +27,10 @@ fn main(rt: HostRuntime) -> ExitCode {
     let Ok(mut drives) = open_drives(&rt, alloc, &names) else {
         return ExitCode::from(NO_MEMORY);
     };
+    let Ok(mut out) = StdSink::stdout(&rt, alloc) else {
+        return ExitCode::from(NO_MEMORY);
+    };
     let mut input = StdSource::stdin(&rt);
-    let mut out = StdSink::stdout(&rt);
     let mut tally = Count::new();
     let status = flash(
         &rt,

@@ -1,2 +1,3 @@
+pub mod HeldLaws
 pub mod LabelLaws
 pub mod StripingLaws

@@ -1,4 +1,4 @@
-//! Numbers in the bytes of a page, the lowest byte first.
+//! Numbers in the bytes of a page, the lowest byte first: of labels here, and of an image's header and entries above.
 
 ghost use Rattle.std.specs.Prelude.{◌≡◌, ◌+◌, ◌≤◌, ◌++◌, ◌==◌, length, take, drop};
 ghost use Rattle.std.specs.List.{list_all};
@@ -9,7 +9,7 @@ use byteorder::{ByteOrder, LittleEndian};
 
 /// The number in the 4 bytes from `place` on.
 #[tactic(auto, using(std::proofs::lemmas::List::take_rest))]
-pub(crate) fn number_at(bytes: &[u8], place: usize) -> u32
+pub fn number_at(bytes: &[u8], place: usize) -> u32
     requires { place + 4 ≤ length bytes.now }
     ensures { result ≡ number_at bytes.now place }
 {
@@ -18,7 +18,7 @@ pub(crate) fn number_at(bytes: &[u8], place: usize) -> u32
 
 /// The number in the 8 bytes from `place` on.
 #[tactic(auto, using(std::proofs::lemmas::List::take_rest))]
-pub(crate) fn wide_number_at(bytes: &[u8], place: usize) -> u64
+pub fn wide_number_at(bytes: &[u8], place: usize) -> u64
     requires { place + 8 ≤ length bytes.now }
     ensures { result ≡ wide_number_at bytes.now place }
 {
@@ -44,7 +44,7 @@ pub(crate) fn put_wide_number(bytes: &mut [u8], place: usize, number: u64)
 }
 
 /// Whether there are nothing but zeros.
-pub(crate) fn is_blank(bytes: &[u8]) -> bool
+pub fn is_blank(bytes: &[u8]) -> bool
     ensures { result ≡ is_blank bytes.now }
 {
     bytes.iter().all(|byte| *byte == 0)

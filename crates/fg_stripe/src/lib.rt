@@ -5,7 +5,7 @@
 //! per drive; what reads a page of it asks `striping::place`, and knows the image by its [`Layout`].
 #![tactic(auto)]
 
-mod bytes;
+pub mod bytes;
 mod label;
 mod layout;
 pub mod striping;

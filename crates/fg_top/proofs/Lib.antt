@@ -1,19 +1,26 @@
-mod DriveLemmas
-pub mod Fits
-pub mod Front
-pub mod IndexPages
-mod LevelsLemmas
+mod EndLemmas
+mod FlashLemmas
+mod FlushLemmas
+mod JobLemmas
+mod MeaningLemmas
 mod NumberLemmas
+mod OutcomeLemmas
+mod PagedLemmas
 mod PagesBegin
 mod PagesEntries
 mod PagesFolding
 mod PagesIteration
 mod PagesOpening
+mod PagesPlaces
 mod PagesReads
 mod PagesSending
 mod PagesStretches
 mod PagesTold
 mod PagesVertices
-pub mod Stages
-pub mod TestChains
-mod WorkLemmas
+mod RunEnds
+pub mod WordLaws
+mod WordLists
+pub mod WordNames
+mod WordReading
+mod WordRows
+mod WordSteps

@@ -3,7 +3,7 @@ use Rattle.std.proofs.Common.{◌≡◌, ℕ, ◌<◌, true, List, [], ◌∷◌
 use Rattle.std.specs.List.{list_all}
 use Rattle.std.specs.Char.{is_ascii_digit, digit_value}
 use Rattle.std.specs.Str.Parse.{AllDigits, IsNumeral, without_leading_plus}
-use Rattle.fg_top.specs.Words.{is_number}
+use Rattle.fg_top.specs.CommandLine.{is_number}
 
 digit : (c : ℕ) → is_ascii_digit c ≡ true → digit_value c < 10
 digit c h = grind arith

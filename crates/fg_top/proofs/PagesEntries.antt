@@ -1,53 +1,45 @@
--- Entries within a page, and entries over several pages.
-use Rattle.std.proofs.Common.{◌≡◌, ℕ, zero, suc, ◌+◌, ◌*◌, ◌<◌, ◌≤◌, List, [], ◌∷◌, ◌++◌, length, get_or, take, drop, refl, sym, ap, ◌∙◌, arith}
-use Rattle.std.proofs.lemmas.List.{get_or-drop, get_or-take}
+-- The entries that are left of a list, and the edges along them.
+use Rattle.std.proofs.Common.{◌≡◌, ℕ, suc, ◌+◌, ◌-◌, ◌*◌, ◌<◌, ◌≤◌, Bool, List, [], ◌∷◌, ◌++◌, length, refl, ap, ◌∙◌, arith}
 use Rattle.fg_base.specs.declared.plain.Dir.{Dir}
 use Rattle.fg_base.specs.declared.plain.Entry.{Entry}
+use Rattle.fg_image.specs.Lists.{entries_at, entry_at}
+use Rattle.fg_image.proofs.EntryLaws.{entries_at-append}
+use Rattle.fg_index.specs.ImageIndex.{entry_bytes}
 use Rattle.fg_model.specs.VertexRun.{edges_from}
-use Rattle.fg_top.specs.Form.{number_at}
-use Rattle.fg_top.specs.Lists.{entries_at}
 
--- a byte of a part of the bytes
-byte-within : (bytes : List ℕ) (size from place i : ℕ) → place + i < size →
-    get_or (drop place (take size (drop from bytes))) i 0 ≡ get_or (drop (from + place) bytes) i 0
-byte-within bytes size from place i within =
-    get_or-drop place (take size (drop from bytes)) i 0 ∙ get_or-take size (drop from bytes) (place + i) 0 within
-    ∙ get_or-drop from bytes (place + i) 0 ∙ ap (λ k. get_or bytes k 0) (omega arith) ∙ sym (get_or-drop (from + place) bytes i 0)
+-- what is left behind the first `done` of so many entries that begin at this byte
+abbrev pub entries_behind : Bool → List ℕ → ℕ → ℕ → ℕ → List Entry
+entries_behind weighted bytes begin count done = entries_at weighted bytes (begin + done * entry_bytes weighted) (count - done)
 
--- a number of 4 bytes within a part of the bytes
-number_at-within : (bytes : List ℕ) (size from place : ℕ) → place + 4 ≤ size →
-    number_at (take size (drop from bytes)) place ≡ number_at bytes (from + place)
-number_at-within bytes size from place within =
-    let b0 = byte-within bytes size from place 0 (omega arith) in
-    let b1 = byte-within bytes size from place 1 (omega arith) in
-    let b2 = byte-within bytes size from place 2 (omega arith) in
-    let b3 = byte-within bytes size from place 3 (omega arith) in
-    cc
+-- nothing is done
+pub entries_behind-none : (weighted : Bool) (bytes : List ℕ) (begin count : ℕ) → entries_at weighted bytes begin count ≡ entries_behind weighted bytes begin count 0
+entries_behind-none weighted bytes begin count =
+    let here : begin ≡ begin + 0 * entry_bytes weighted = omega arith in
+    let all : count ≡ count - 0 = omega arith in
+    ap (λ (place : ℕ). entries_at weighted bytes place count) here ∙ ap (entries_at weighted bytes (begin + 0 * entry_bytes weighted)) all
 
--- entries within a part of the bytes
-pub entries_at-within : (bytes : List ℕ) (size from count place : ℕ) → place + count * 4 ≤ size →
-    entries_at (take size (drop from bytes)) place count ≡ entries_at bytes (from + place) count
-entries_at-within bytes size from zero place within = refl
-entries_at-within bytes size from (suc count) place within =
-    let head = number_at-within bytes size from place (omega arith) in
-    let rest : entries_at (take size (drop from bytes)) (place + 4) count ≡ entries_at bytes (from + (place + 4)) count = entries_at-within bytes size from count (place + 4) (omega arith) in
-    let next : from + (place + 4) ≡ from + place + 4 = omega arith in
-    cc
+-- all is done
+pub entries_behind-all : (weighted : Bool) (bytes : List ℕ) (begin count done : ℕ) → count ≤ done → entries_behind weighted bytes begin count done ≡ []
+entries_behind-all weighted bytes begin count done end =
+    let none : count - done ≡ 0 = omega arith in
+    ap (entries_at weighted bytes (begin + done * entry_bytes weighted)) none
 
--- one part after another
-pub entries_at-append : (bytes : List ℕ) (first then_ place : ℕ) →
-    entries_at bytes place (first + then_) ≡ entries_at bytes place first ++ entries_at bytes (place + first * 4) then_
-entries_at-append bytes zero then_ place =
-    let none : 0 + then_ ≡ then_ = omega arith in let same : place + 0 * 4 ≡ place = omega arith in cc
-entries_at-append bytes (suc first) then_ place =
-    let more : suc first + then_ ≡ suc (first + then_) = omega arith in
-    let rest : entries_at bytes (place + 4) (first + then_) ≡ entries_at bytes (place + 4) first ++ entries_at bytes (place + 4 + first * 4) then_ = entries_at-append bytes first then_ (place + 4) in
-    let next : place + 4 + first * 4 ≡ place + suc first * 4 = omega arith in
-    cc
+-- the next part of what is left, and what is left behind it
+pub entries_behind-part : (weighted : Bool) (bytes : List ℕ) (begin count done part : ℕ) → done + part ≤ count →
+    entries_behind weighted bytes begin count done
+    ≡ entries_at weighted bytes (begin + done * entry_bytes weighted) part ++ entries_behind weighted bytes begin count (done + part)
+entries_behind-part weighted bytes begin count done part within =
+    let size = entry_bytes weighted in
+    let left : count - done ≡ part + (count - (done + part)) = omega arith in
+    let next : begin + done * size + part * size ≡ begin + (done + part) * size = omega arith in
+    ap (entries_at weighted bytes (begin + done * size)) left
+    ∙ entries_at-append weighted bytes (begin + done * size) part (count - (done + part))
+    ∙ ap (λ (place : ℕ). entries_at weighted bytes (begin + done * size) part ++ entries_at weighted bytes place (count - (done + part))) next
 
-pub length-entries_at : (bytes : List ℕ) (count place : ℕ) → length (entries_at bytes place count) ≡ count
-length-entries_at bytes zero place = refl
-length-entries_at bytes (suc count) place = ap suc (length-entries_at bytes count (place + 4))
+-- the next entry, and what is left behind it
+pub entries_behind-entry : (weighted : Bool) (bytes : List ℕ) (begin count done : ℕ) → done < count →
+    entries_behind weighted bytes begin count done ≡ entry_at weighted bytes (begin + done * entry_bytes weighted) ∷ entries_behind weighted bytes begin count (done + 1)
+entries_behind-entry weighted bytes begin count done within = entries_behind-part weighted bytes begin count done 1 (omega arith)
 
 -- edges of one part of a list after another
 pub edges_from-append : (v : ℕ) (dir : Dir) (xs ys : List Entry) (place : ℕ) →

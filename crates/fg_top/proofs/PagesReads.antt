@@ -1,43 +1,86 @@
--- Readings of a drive, one after another.
-use Rattle.std.proofs.Common.{◌≡◌, ℕ, ◌+◌, ◌*◌, ◌/◌, ◌<◌, refl, ap, ◌∙◌, lit<, arith}
+-- Readings of drives, one after another.
+use Rattle.std.proofs.Common.{◌≡◌, ℕ, suc, ◌+◌, ◌*◌, ◌/◌, ◌<◌, ◌≤◌, Bool, true, false, List, length, refl, ap, ◌∙◌, lit<, arith}
+use Rattle.std.proofs.Math.Nat.{mul-le-mul_right}
 use Rattle.std.specs.List.{Contains}
 use Rattle.fg_base.specs.declared.plain.Dir.{Dir}
 use Rattle.fg_base.specs.declared.plain.Need.{Need}
-use Rattle.fg_outside.specs.declared.drive.Read.{Read}
-use Rattle.fg_top.specs.declared.opened.Opened.{Opened}
-use Rattle.fg_outside.specs.Log.{read_of}
+use Rattle.fg_build.specs.declared.opened.Opened.{Opened}
+use Rattle.fg_build.specs.Answers.{HoldWhole}
+use Rattle.fg_build.specs.OpeningReads.{page_read}
+use Rattle.fg_index.specs.ImageIndex.{entry_bytes}
+use Rattle.fg_outside.specs.Drives.{DriveRead}
+use Rattle.fg_outside.proofs.DriveLemmas.{EachDrive-length, EachTold-same}
+use Rattle.fg_stripe.specs.declared.layout.Layout.{Layout}
+use Rattle.fg_stripe.specs.Striping.{pages_on}
+use Rattle.fg_top.specs.declared.lists.Part.{Part}
 use Rattle.fg_top.specs.declared.lists.Stretch.{Stretch}
-use Rattle.fg_top.specs.Asked.{DriveState, OnlyRead, IsPageOf, IsPageFor, dirs_of}
+use Rattle.fg_top.specs.Asked.{IsPageFor, IsPageOf, dirs_of}
 use Rattle.fg_top.specs.AskedLaws.{OnlyRead-more, OnlyRead-weaker}
-use Rattle.fg_top.specs.Lists.{begin_of, stretch_of}
+use Rattle.fg_top.specs.Lists.{IsPartBehind, behind, stretch_of}
+use Rattle.fg_top.specs.OnlyRead.{IsPageIn, OnlyRead, Telling}
 
-page-of_entry : (first start done : ℕ) → first + (start + done) / 1024 ≡ (first * 4096 + start * 4 + done * 4) / 4096
-page-of_entry first start done = omega arith
+pub some_bytes : (weighted : Bool) → 1 ≤ entry_bytes weighted
+some_bytes true = omega arith
+some_bytes false = omega arith
 
--- the page of an entry of a stretch
-pub IsPageOf-entry : (stretch : Stretch) (done number : ℕ) → done < stretch.count → number ≡ stretch.first_page + (stretch.start + done) / 1024 →
-    (read : Read) → read ≡ read_of number 1 → IsPageOf stretch read
-IsPageOf-entry stretch done number within is read same =
+-- each entry of a list ends within the list
+pub entry-within : (size done count : ℕ) → done < count → done * size + size ≤ count * size
+entry-within size done count below = let last : suc done * size ≤ count * size = mul-le-mul_right size below in omega (arith, last)
+
+page-at : (page from byte : ℕ) → page * 4096 + from ≡ byte → from < 4096 → page ≡ byte / 4096
+page-at page from byte at below = omega arith
+
+-- the first byte of a part is on its page
+pub from-within : (stretch : Stretch) (part : Part) (done : ℕ) → IsPartBehind stretch done part → part.from < 4096
+from-within stretch part done is =
+    let size = entry_bytes stretch.weighted in
+    let one : 1 * size ≤ part.count * size = mul-le-mul_right size is.some in
+    omega (arith, one, is.within_page, some_bytes stretch.weighted)
+
+-- a part's page is within the image where its list is
+pub part-within : (stretch : Stretch) (part : Part) (done pages : ℕ) → IsPartBehind stretch done part → behind stretch ≤ pages * 4096 → part.page < pages
+part-within stretch part done pages is within =
+    let size = entry_bytes stretch.weighted in
+    let entry = entry-within size done stretch.count (omega (arith, is.some, is.within_list)) in
+    omega (arith, entry, some_bytes stretch.weighted, is.on_page)
+
+-- the page of a part is a page of its list
+IsPageIn-part : (layout : Layout) (stretch : Stretch) (part : Part) (done : ℕ) → IsPartBehind stretch done part →
+    (read : DriveRead) → read ≡ page_read layout.drives layout.unit part.page → IsPageIn layout stretch read
+IsPageIn-part layout stretch part done is read same =
+    let size = entry_bytes stretch.weighted in
+    let entry = entry-within size done stretch.count (omega (arith, is.some, is.within_list)) in
     record {
-      one_page = ap (λ (r : Read). r.count) same;
-      byte = begin_of stretch + done * 4;
+      byte = stretch.begin + done * size;
       from_begin = omega arith;
-      to_end = omega arith;
-      on_page = ap (λ (r : Read). r.first) same ∙ is ∙ page-of_entry stretch.first_page stretch.start done;
+      to_end = omega (arith, entry, some_bytes stretch.weighted);
+      at_place = same ∙ ap (page_read layout.drives layout.unit) (page-at part.page part.from (stretch.begin + done * size) is.on_page (from-within stretch part done is));
     }
 
--- one more page of a stretch was read
-pub OnlyRead-entry : (stretch : Stretch) (done number : ℕ) (first middle last : DriveState) → done < stretch.count → number ≡ stretch.first_page + (stretch.start + done) / 1024 →
-    OnlyRead (IsPageOf stretch) first middle → OnlyRead (λ read. read ≡ read_of number 1) middle last → OnlyRead (IsPageOf stretch) first last
-OnlyRead-entry stretch done number first middle last within is before one =
-    OnlyRead-more (IsPageOf stretch) first middle last before
-    (OnlyRead-weaker (λ read. read ≡ read_of number 1) (IsPageOf stretch) (IsPageOf-entry stretch done number within is) middle last one)
+-- one more page of a list was read
+pub OnlyRead-part : {D : Type 0} (T : Telling D) (layout : Layout) (stretch : Stretch) (part : Part) (done : ℕ) (olds betweens news : List D) → IsPartBehind stretch done part →
+    OnlyRead T (IsPageIn layout stretch) olds betweens → OnlyRead T (λ read. read ≡ page_read layout.drives layout.unit part.page) betweens news → OnlyRead T (IsPageIn layout stretch) olds news
+OnlyRead-part T layout stretch part done olds betweens news is before one =
+    OnlyRead-more T (IsPageIn layout stretch) olds betweens news before
+    (OnlyRead-weaker T (λ read. read ≡ page_read layout.drives layout.unit part.page) (IsPageIn layout stretch) (IsPageIn-part layout stretch part done is) betweens news one)
+
+-- what the drives told before they were read they still told
+pub HoldWhole-after : {D : Type 0} (T : Telling D) (IsOne : DriveRead → Type 0) (layout : Layout) (olds news : List D) → OnlyRead T IsOne olds news → HoldWhole T.told layout olds → HoldWhole T.told layout news
+HoldWhole-after T IsOne layout olds news reads whole = (
+  EachDrive-length (λ old new. T.told new ≡ T.told old) olds news reads.same_told ∙ whole.0,
+  EachTold-same T.told (λ drive. 1 + length (pages_on drive layout.drives layout.unit layout.pages)) olds news reads.same_told whole.1,
+)
+
+-- a page of a vertex's list, as the list lies in the image
+page-of : (opened : Opened) (dir : Dir) (v : ℕ) (read : DriveRead) → IsPageIn opened.layout (stretch_of opened dir v) read → IsPageOf opened.layout opened.index dir v read
+page-of opened dir v read is = record { byte = is.byte; from_begin = is.from_begin; to_end = is.to_end; at_place = is.at_place }
 
 -- a list of a vertex is one of its needed lists
-pub OnlyRead-for : (opened : Opened) (need : Need) (dir : Dir) (v : ℕ) (old new : DriveState) → Contains (dirs_of need) dir →
-    OnlyRead (IsPageOf (stretch_of opened dir v)) old new → OnlyRead (IsPageFor opened need v) old new
-OnlyRead-for opened need dir v old new needed reads =
-    OnlyRead-weaker (IsPageOf (stretch_of opened dir v)) (IsPageFor opened need v) (λ read is. record { dir = dir; is_needed = needed; is_page = is }) old new reads
+pub OnlyRead-for : {D : Type 0} (T : Telling D) (opened : Opened) (need : Need) (dir : Dir) (v : ℕ) (olds news : List D) → Contains (dirs_of need) dir →
+    OnlyRead T (IsPageIn opened.layout (stretch_of opened dir v)) olds news → OnlyRead T (IsPageFor opened.layout opened.index need v) olds news
+OnlyRead-for T opened need dir v olds news needed reads =
+    OnlyRead-weaker T (IsPageIn opened.layout (stretch_of opened dir v)) (IsPageFor opened.layout opened.index need v)
+    (λ read is. record { dir = dir; is_needed = needed; is_page = page-of opened dir v read is }) olds news reads
 
 pub needs-out : Contains (dirs_of Need.Out) Dir.Out
 needs-out = (0, lit< tt, refl)

@@ -1,30 +1,22 @@
--- What a drive tells, where it tells it.
-use Rattle.std.proofs.Common.{◌≡◌, ℕ, true, Option, None, Some, IfSome, List, [], ◌∷◌, take, ap, ◌∙◌, subst}
-use Rattle.std.proofs.lemmas.Bool.{false≢true}
-use Rattle.std.proofs.lemmas.List.Elements.{All-nil, All-cons, All-take}
+-- What drives tell, where they tell it.
+use Rattle.std.proofs.Common.{◌≡◌, ℕ, true, Option, List, ap, ◌∙◌, subst}
 use Rattle.fg_base.specs.declared.plain.BadEdge.{BadEdge}
-use Rattle.fg_base.specs.Told.{GrewBy, GrewByFirst}
 use Rattle.fg_model.specs.declared.iteration.IterFault.{IterFault}
 use Rattle.fg_model.specs.Engine.{MatchIterFault}
-use Rattle.fg_top.specs.Form.{page_of}
-use Rattle.fg_top.specs.Lists.{is_told, bytes_of}
+use Rattle.fg_outside.specs.Drives.{DriveRead, NoneRose, RoseFirst, all_told}
+use Rattle.fg_outside.proofs.DriveLemmas.{EachSame-more, RoseFirst-after, all_told-same}
+use Rattle.fg_stripe.specs.declared.layout.Layout.{Layout}
+use Rattle.fg_top.specs.Lists.{image_told, is_told}
+use Rattle.fg_top.specs.OnlyRead.{OnlyRead, Telling}
 
-pub told-at : (held : Option (List ℕ)) (Q : List ℕ → Type 0) → IfSome held Q → is_told held ≡ true → Q (bytes_of held)
-told-at None Q known told = absurd (false≢true told)
-told-at (Some bytes) Q known told = known
+-- what is known of the image that is told now is known of the one that was told before
+pub told-before : (layout : Layout) (now before : Option (List (List ℕ))) (Q : List ℕ → Type 0) → now ≡ before → (is_told now ≡ true → Q (image_told layout now)) → is_told before ≡ true → Q (image_told layout before)
+told-before layout now before Q same known told = subst (λ all. Q (image_told layout all)) same (known (ap is_told same ∙ told))
 
--- growth by one thing, or by some first part of it
-pub grew_by-one : {A : Type 0} (IsOne : A → Type 0) (one : A) (old new : Option (List A)) → IsOne one → GrewByFirst (one ∷ []) old new → GrewBy IsOne old new
-grew_by-one IsOne one old new is (k, grew) = (take k (one ∷ []), All-take IsOne k (one ∷ []) (All-cons IsOne one [] is (All-nil IsOne)), grew)
-
--- a page of what a drive told before
-pub page-told : (held old : Option (List ℕ)) (page : List ℕ) (number : ℕ) → held ≡ old → (is_told held ≡ true → page ≡ page_of (bytes_of held) number) →
-    is_told old ≡ true → page ≡ page_of (bytes_of old) number
-page-told held old page number same read told = read (ap is_told same ∙ told) ∙ ap (λ h. page_of (bytes_of h) number) same
-
--- what is known of the bytes that a drive tells now is known of what it told before
-pub told-before : (held old : Option (List ℕ)) (Q : List ℕ → Type 0) → held ≡ old → (is_told held ≡ true → Q (bytes_of held)) → is_told old ≡ true → Q (bytes_of old)
-told-before held old Q same known told = subst (λ h. Q (bytes_of h)) same (known (ap is_told same ∙ told))
+-- the same after drives were read
+pub told-after : {D : Type 0} (T : Telling D) (IsOne : DriveRead → Type 0) (layout : Layout) (olds news : List D) (Q : List ℕ → Type 0) → OnlyRead T IsOne olds news →
+    (is_told (all_told T.held news) ≡ true → Q (image_told layout (all_told T.held news))) → is_told (all_told T.held olds) ≡ true → Q (image_told layout (all_told T.held olds))
+told-after T IsOne layout olds news Q reads known = told-before layout (all_told T.held news) (all_told T.held olds) Q (all_told-same T.held olds news reads.same_held) known
 
 -- a fact for each fault, from another one
 pub MatchIterFault-weaker : (fault : IterFault) (D D' : ℕ → Type 0) (B B' : BadEdge → Type 0) → ((number : ℕ) → D number → D' number) → ((bad : BadEdge) → B bad → B' bad) →
@@ -32,3 +24,18 @@ pub MatchIterFault-weaker : (fault : IterFault) (D D' : ℕ → Type 0) (B B' : 
 MatchIterFault-weaker IterFault.Memory D D' B B' on_drive on_bad known = tt
 MatchIterFault-weaker (IterFault.Drive number) D D' B B' on_drive on_bad known = on_drive number known
 MatchIterFault-weaker (IterFault.BadEdge bad) D D' B B' on_drive on_bad known = on_bad bad known
+
+-- a drive's count rose after no count had
+pub faults-after : {D : Type 0} (faults : D → ℕ) (fault : IterFault) (olds betweens news : List D) → NoneRose faults olds betweens →
+    MatchIterFault fault (λ drive. RoseFirst faults drive betweens news) (λ bad. NoneRose faults betweens news) →
+    MatchIterFault fault (λ drive. RoseFirst faults drive olds news) (λ bad. NoneRose faults olds news)
+faults-after faults fault olds betweens news kept known =
+    MatchIterFault-weaker fault (λ drive. RoseFirst faults drive betweens news) (λ drive. RoseFirst faults drive olds news) (λ bad. NoneRose faults betweens news) (λ bad. NoneRose faults olds news)
+    (λ drive rose. RoseFirst-after faults drive olds betweens news kept rose) (λ bad same. EachSame-more faults olds betweens news kept same) known
+
+-- the same of a call that meets no bad edge
+pub faults-no_edge : {D : Type 0} (faults : D → ℕ) (fault : IterFault) (olds news : List D) →
+    MatchIterFault fault (λ drive. RoseFirst faults drive olds news) (λ bad. ⊥) → MatchIterFault fault (λ drive. RoseFirst faults drive olds news) (λ bad. NoneRose faults olds news)
+faults-no_edge faults fault olds news known =
+    MatchIterFault-weaker fault (λ drive. RoseFirst faults drive olds news) (λ drive. RoseFirst faults drive olds news) (λ bad. ⊥) (λ bad. NoneRose faults olds news)
+    (λ drive rose. rose) (λ bad never. absurd never) known

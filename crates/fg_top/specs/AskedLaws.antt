@@ -1,65 +1,78 @@
--- Readings of a drive one after another, and what more iterations ask for.
+-- Readings of drives one after another, and what more iterations ask for.
 use Rattle.std.specs.Prelude.{◌≡◌, ℕ, List, [], ◌++◌, refl}
-use Rattle.std.proofs.Common.{sym, ap, subst, ◌∙◌}
-use Rattle.std.proofs.lemmas.List.Elements.{All-nil, All-append, All-weaker, Contains-append_left, Contains-append_right}
-use Rattle.fg_base.specs.Faults.{Rose}
-use Rattle.fg_base.specs.Told.{grown}
-use Rattle.fg_base.proofs.ToldLemmas.{grown-nil, grown-grown}
+use Rattle.std.proofs.Common.{subst, ◌∙◌}
+use Rattle.std.proofs.lemmas.List.Elements.{Contains-append_left, Contains-append_right}
+use Rattle.fg_build.specs.declared.opened.Opened.{Opened}
+use Rattle.fg_index.specs.ImageIndex.{ImageIndex}
 use Rattle.fg_model.specs.Iteration.{Begun}
 use Rattle.fg_model.specs.Program.{Rules}
-use Rattle.fg_outside.specs.declared.drive.Read.{Read}
-use Rattle.fg_top.specs.declared.opened.Opened.{Opened}
-use Rattle.fg_top.specs.Asked.{DriveState, OnlyRead, HasAsked, IsAsked}
+use Rattle.fg_outside.specs.Drives.{DriveRead, NoneRose, RoseFirst}
+use Rattle.fg_outside.proofs.DriveLemmas.{EachDrive-same, EachSame-more, LogsGrewBy-more, LogsGrewBy-none, LogsGrewBy-weaker, RoomyKept-more, RoseFirst-after}
+use Rattle.fg_stripe.specs.declared.layout.Layout.{Layout}
+use Rattle.fg_top.specs.Asked.{IsAsked}
+use Rattle.fg_top.specs.OnlyRead.{HasAsked, OnlyRead, Telling}
 
-pub OnlyRead-none : (IsOne : Read → Type 0) (drive : DriveState) → OnlyRead IsOne drive drive
-OnlyRead-none IsOne drive =
-    record { same_held = refl; same_told = refl; same_room = refl; grew = ([], All-nil IsOne, sym (grown-nil drive.log)) }
-
-pub OnlyRead-more : (IsOne : Read → Type 0) (first middle last : DriveState) → OnlyRead IsOne first middle → OnlyRead IsOne middle last → OnlyRead IsOne first last
-OnlyRead-more IsOne first middle last one two =
+pub OnlyRead-none : {D : Type 0} (T : Telling D) (IsOne : DriveRead → Type 0) (drives : List D) → OnlyRead T IsOne drives drives
+OnlyRead-none T IsOne drives =
     record {
-      same_held = two.same_held ∙ one.same_held;
-      same_told = two.same_told ∙ one.same_told;
-      same_room = two.same_room ∙ one.same_room;
-      grew = (
-        one.grew.0 ++ two.grew.0,
-        All-append IsOne one.grew.0 two.grew.0 one.grew.1 two.grew.1,
-        two.grew.2 ∙ ap (λ log. grown log two.grew.0) one.grew.2 ∙ grown-grown first.log one.grew.0 two.grew.0,
-      );
+      same_held = EachDrive-same (λ old new. T.held new ≡ T.held old) (λ drive. refl) drives;
+      same_told = EachDrive-same (λ old new. T.told new ≡ T.told old) (λ drive. refl) drives;
+      same_room = EachDrive-same (λ old new. T.room new ≡ T.room old) (λ drive. refl) drives;
+      roomy = EachDrive-same _ (λ drive told. refl) drives;
+      grew = LogsGrewBy-none IsOne T.log drives;
     }
 
-pub OnlyRead-weaker : (Strong Weak : Read → Type 0) → ((read : Read) → Strong read → Weak read) → (old new : DriveState) → OnlyRead Strong old new → OnlyRead Weak old new
-OnlyRead-weaker Strong Weak weaker old new reads =
+pub OnlyRead-more : {D : Type 0} (T : Telling D) (IsOne : DriveRead → Type 0) (olds betweens news : List D) → OnlyRead T IsOne olds betweens → OnlyRead T IsOne betweens news → OnlyRead T IsOne olds news
+OnlyRead-more T IsOne olds betweens news one two =
+    record {
+      same_held = EachSame-more T.held olds betweens news one.same_held two.same_held;
+      same_told = EachSame-more T.told olds betweens news one.same_told two.same_told;
+      same_room = EachSame-more T.room olds betweens news one.same_room two.same_room;
+      roomy = RoomyKept-more T.room T.faults olds betweens news one.same_room one.roomy two.roomy;
+      grew = LogsGrewBy-more IsOne T.log olds betweens news one.grew two.grew;
+    }
+
+pub OnlyRead-weaker : {D : Type 0} (T : Telling D) (Strong Weak : DriveRead → Type 0) → ((read : DriveRead) → Strong read → Weak read) → (olds news : List D) → OnlyRead T Strong olds news → OnlyRead T Weak olds news
+OnlyRead-weaker T Strong Weak weaker olds news reads =
     record {
       same_held = reads.same_held;
       same_told = reads.same_told;
       same_room = reads.same_room;
-      grew = (reads.grew.0, All-weaker Strong Weak weaker reads.grew.0 reads.grew.1, reads.grew.2);
+      roomy = reads.roomy;
+      grew = LogsGrewBy-weaker Strong Weak T.log olds news weaker reads.grew;
     }
 
 -- what some iterations ask for, more iterations ask for
-pub IsAsked-left : (opened : Opened) (P : Rules) (begun next : List Begun) (read : Read) → IsAsked opened P begun read → IsAsked opened P (begun ++ next) read
-IsAsked-left opened P begun next read asked =
+pub IsAsked-left : (layout : Layout) (index : ImageIndex) (P : Rules) (begun next : List Begun) (read : DriveRead) → IsAsked layout index P begun read → IsAsked layout index P (begun ++ next) read
+IsAsked-left layout index P begun next read asked =
     record { iteration = asked.iteration; has_begun = Contains-append_left begun next asked.iteration asked.has_begun; is_for_active = asked.is_for_active }
 
-pub IsAsked-right : (opened : Opened) (P : Rules) (begun next : List Begun) (read : Read) → IsAsked opened P next read → IsAsked opened P (begun ++ next) read
-IsAsked-right opened P begun next read asked =
+pub IsAsked-right : (layout : Layout) (index : ImageIndex) (P : Rules) (begun next : List Begun) (read : DriveRead) → IsAsked layout index P next read → IsAsked layout index P (begun ++ next) read
+IsAsked-right layout index P begun next read asked =
     record { iteration = asked.iteration; has_begun = Contains-append_right begun next asked.iteration asked.has_begun; is_for_active = asked.is_for_active }
 
-pub HasAsked-none : (P : Rules) (opened : Opened) (drive : DriveState) → HasAsked P [] opened opened drive drive
-HasAsked-none P opened drive = record { same_opened = refl; reads = OnlyRead-none (IsAsked opened P []) drive }
+-- no count rose where nothing happened, or twice
+pub NoneRose-none : {D : Type 0} (faults : D → ℕ) (drives : List D) → NoneRose faults drives drives
+NoneRose-none faults drives = EachDrive-same (λ old new. faults new ≡ faults old) (λ drive. refl) drives
 
-pub HasAsked-more : (P : Rules) (begun next : List Begun) (opened opened' opened'' : Opened) (first middle last : DriveState) →
-    HasAsked P begun opened opened' first middle → HasAsked P next opened' opened'' middle last → HasAsked P (begun ++ next) opened opened'' first last
-HasAsked-more P begun next opened opened' opened'' first middle last one two =
-    let R : Opened → Type 0 = λ o. OnlyRead (IsAsked o P next) middle last in
+pub NoneRose-more : {D : Type 0} (faults : D → ℕ) (olds betweens news : List D) → NoneRose faults olds betweens → NoneRose faults betweens news → NoneRose faults olds news
+NoneRose-more faults olds betweens news one two = EachSame-more faults olds betweens news one two
+
+-- a drive's count rose after no count had
+pub RoseFirst-later : {D : Type 0} (faults : D → ℕ) (drive : ℕ) (olds betweens news : List D) → NoneRose faults olds betweens → RoseFirst faults drive betweens news → RoseFirst faults drive olds news
+RoseFirst-later faults drive olds betweens news kept rose = RoseFirst-after faults drive olds betweens news kept rose
+
+pub HasAsked-none : {D : Type 0} (T : Telling D) (P : Rules) (opened : Opened) (drives : List D) → HasAsked T P [] opened opened drives drives
+HasAsked-none T P opened drives = record { same_opened = refl; reads = OnlyRead-none T (IsAsked opened.layout opened.index P []) drives }
+
+pub HasAsked-more : {D : Type 0} (T : Telling D) (P : Rules) (begun next : List Begun) (first middle last : Opened) (olds betweens news : List D) →
+    HasAsked T P begun first middle olds betweens → HasAsked T P next middle last betweens news → HasAsked T P (begun ++ next) first last olds news
+HasAsked-more T P begun next first middle last olds betweens news one two =
+    let Asked = λ (some : List Begun) (o : Opened). IsAsked o.layout o.index P some in
+    let R : Opened → Type 0 = λ o. OnlyRead T (Asked next o) betweens news in
     record {
       same_opened = two.same_opened ∙ one.same_opened;
-      reads = OnlyRead-more (IsAsked opened P (begun ++ next)) first middle last
-          (OnlyRead-weaker (IsAsked opened P begun) (IsAsked opened P (begun ++ next)) (IsAsked-left opened P begun next) first middle one.reads)
-          (OnlyRead-weaker (IsAsked opened P next) (IsAsked opened P (begun ++ next)) (IsAsked-right opened P begun next) middle last (subst R one.same_opened two.reads));
+      reads = OnlyRead-more T (Asked (begun ++ next) first) olds betweens news
+          (OnlyRead-weaker T (Asked begun first) (Asked (begun ++ next) first) (IsAsked-left first.layout first.index P begun next) olds betweens one.reads)
+          (OnlyRead-weaker T (Asked next first) (Asked (begun ++ next) first) (IsAsked-right first.layout first.index P begun next) betweens news (subst R one.same_opened two.reads));
     }
-
--- a count that rose after it had stood still
-pub failed_later : (number first middle last : ℕ) → middle ≡ first → (number ≡ 0) × Rose middle last → (number ≡ 0) × Rose first last
-failed_later number first middle last same failed = let F : ℕ → Type 0 = λ count. (number ≡ 0) × Rose count last in subst F same failed

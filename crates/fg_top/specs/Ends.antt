@@ -8,7 +8,7 @@ use Rattle.fg_base.specs.Told.{grown, GrewByFirst}
 use Rattle.fg_base.specs.declared.refusal.Refusal.{Refusal}
 use Rattle.fg_base.specs.declared.refusal.Refusal.TheVariants.{Memory, OutputFault, DriveFault}
 use Rattle.fg_report.specs.Refusals.{refusal_line}
-use Rattle.fg_top.specs.Drives.{NoneRose, RoseFirst}
+use Rattle.fg_outside.specs.Drives.{NoneRose, RoseFirst}
 use Rattle.fg_top.specs.Outcome.{Close, Outcome, Done, Refuses}
 
 -- the status where nothing or this refusal ended the work and its text was written

@@ -1,19 +1,52 @@
 -- What a job comes to where memory suffices and the outside doesn't fail.
-use Rattle.std.specs.Prelude.{◌≡◌, ℕ, ◌-◌, ◌^◌, ◌≤◌, Option, None, Some, Result, Ok, Err, List, [], nat_le, if◌then◌else◌}
+use Rattle.std.specs.Prelude.{◌≡◌, ℕ, ◌≤◌, Bool, true, false, Option, None, Some, Result, Ok, Err, List, [], ◌∷◌, ◌++◌, codes, map, nat_le, if◌then◌else◌}
+use Rattle.fg_base.specs.declared.plain.Value.{Value}
 use Rattle.fg_base.specs.declared.plain.VState.{VState}
 use Rattle.fg_base.specs.declared.refusal.Refusal.{Refusal}
-use Rattle.fg_base.specs.declared.refusal.Refusal.TheVariants.{Words, Unbuilt, BadSource, BadEdge}
 use Rattle.fg_base.specs.declared.refusal.WordFault.{WordFault}
+use Rattle.fg_build.specs.declared.opened.Opened.{Opened}
+use Rattle.fg_build.specs.Answers.{MatchOpening}
+use Rattle.fg_build.specs.Opening.{graph_on, opening_of}
+use Rattle.fg_image.specs.declared.header.Header.{Header}
 use Rattle.fg_model.specs.Program.{Rules}
-use Rattle.fg_model.specs.Run.{Run, Ending, Settled, Stopped, Refused, run}
+use Rattle.fg_model.specs.Run.{Ending, Finished, Refused, Run, Settled, Stopped, run}
+use Rattle.fg_model.specs.Watch.{line_of}
+use Rattle.fg_rank.specs.Rank.{rank}
+use Rattle.fg_report.specs.Lines.{end_line, head_line}
+use Rattle.fg_report.specs.ReportWatch.{iteration_text}
+use Rattle.fg_report.specs.Sum.{sum_line}
 use Rattle.fg_report.specs.Values.{value_lines}
 use Rattle.fg_top.specs.declared.jobs.Job.{Job}
 use Rattle.fg_top.specs.declared.jobs.Pick.{Pick}
-use Rattle.fg_top.specs.declared.opened.Opened.{Opened}
-use Rattle.fg_top.specs.Form.{form_on}
-use Rattle.fg_top.specs.Lists.{graph_on}
+use Rattle.fg_top.specs.declared.jobs.Wish.{Wish}
 use Rattle.fg_top.specs.Words.{job_of}
 use Rattle.fg_walks.specs.Bfs.{bfs}
+use Rattle.fg_walks.specs.Sssp.{sssp}
+
+-- a picked program, its name as it is written, and its source
+abbrev pub rules_of : Pick → Rules
+rules_of (Pick.Bfs source) = bfs source
+rules_of (Pick.Sssp source) = sssp source
+rules_of (Pick.Rank cut) = rank cut
+
+abbrev pub name_of : Pick → List ℕ
+name_of (Pick.Bfs source) = codes "bfs"
+name_of (Pick.Sssp source) = codes "sssp"
+name_of (Pick.Rank cut) = codes "rank"
+
+abbrev pub source_of : Pick → Option ℕ
+source_of (Pick.Bfs source) = Some source
+source_of (Pick.Sssp source) = Some source
+source_of (Pick.Rank cut) = None
+
+-- what a job asks of a run
+abbrev pub wish_of : Job → Wish
+wish_of (Job.Run pick max each quiet) = record { pick = pick; max = max; each = each; quiet = quiet }
+wish_of (Job.Ref pick max each quiet) = record { pick = pick; max = max; each = each; quiet = quiet }
+
+-- the run that is wished for on drives that hold these bytes
+abbrev pub run_on : Wish → Opened → List (List ℕ) → Run
+run_on wish opened helds = run (rules_of wish.pick) (graph_on opened helds) wish.max
 
 -- how a job closes: it is done, and this is the last of its text; or it is refused for what its words ask or its
 -- drives hold
@@ -21,58 +54,83 @@ pub data Close : Type 0 where
   Done : List ℕ → Close
   Refuses : Refusal → Close
 
--- a job's outcome: the lines that are written while it works, and how it closes
+-- a job's outcome: the texts that are written while it works, and how it closes
 pub record Outcome : Type 0 where
   pub lines : List (List ℕ)
   pub close : Close
 
--- an outcome before which no line is written
+-- a job that closes before it wrote anything
 abbrev pub at_once : Close → Outcome
 at_once close = record { lines = []; close = close }
 
--- the most iterations of a run
-abbrev pub most_iterations : ℕ
-most_iterations = 2 ^ 32 - 1
+-- the values, or their sum
+abbrev pub values_or_sum : Bool → (VState → Value) → List VState → List ℕ
+values_or_sum true show states = sum_line show states
+values_or_sum false show states = value_lines show states
 
--- the levels from a source, on a drive of the form that holds these bytes
-abbrev pub levels_on : ℕ → Opened → List ℕ → Run
-levels_on source opened bytes = run (bfs source) (graph_on opened bytes) most_iterations
+-- what is written of a finished iteration
+abbrev pub text_of : Bool → (VState → Value) → Finished → List ℕ
+text_of each show iteration = iteration_text each show (line_of iteration) iteration.states
 
--- how a run closes: with the value lines of its last states, or its bad edge
-abbrev pub run_close : Rules → Ending → List VState → Close
-run_close P Settled states = Done (value_lines P.show states)
-run_close P Stopped states = Done (value_lines P.show states)
-run_close P (Refused begun bad) states = Refuses (BadEdge bad)
+-- how a run closes: its end line and its values, or its first bad edge
+abbrev pub run_close : Bool → (VState → Value) → Ending → ℕ → List VState → Close
+run_close quiet show Settled iterations states = Done (end_line true iterations ++ values_or_sum quiet show states)
+run_close quiet show Stopped iterations states = Done (end_line false iterations ++ values_or_sum quiet show states)
+run_close quiet show (Refused begun bad) iterations states = Refuses (Refusal.BadEdge bad)
 
--- how the levels from a source close, on a drive that was found to hold the form, or not
-abbrev pub levels_close : ℕ → Option Opened → List ℕ → Close
-levels_close source None bytes = Refuses Unbuilt
-levels_close source (Some opened) bytes =
-    if nat_le opened.vertices source
-    then Refuses (BadSource source opened.vertices)
-    else run_close (bfs source) (levels_on source opened bytes).ending (levels_on source opened bytes).states
+-- the head: the program and the counts of the header
+abbrev pub head_of : Pick → Header → List ℕ
+head_of pick header = head_line (name_of pick) header.n header.out_entries header.in_entries
 
--- how the levels from a source may close whatever the drive holds: never for the words, and for the source only where
--- it isn't below the number of vertices
-abbrev pub MayClose : ℕ → Close → Type 0
-MayClose source (Refuses (Words fault)) = ⊥
-MayClose source (Refuses (BadSource named n)) = (named ≡ source) × (n ≤ source)
-MayClose source close = Unit {0}
+-- a run's outcome: the head, what is written of each finished iteration, and how it closes
+abbrev pub run_outcome : Wish → Header → Run → Outcome
+run_outcome wish header run = record {
+  lines = head_of wish.pick header ∷ map (text_of wish.each (rules_of wish.pick).show) run.finished;
+  close = run_close wish.quiet (rules_of wish.pick).show run.ending run.iterations run.states;
+}
 
--- the levels come to this outcome, by what the drive tells of its bytes; nothing is written before they are known
-abbrev pub LevelsComeTo : ℕ → Option (List ℕ) → Outcome → Type 0
-LevelsComeTo source None outcome = (outcome.lines ≡ []) × MayClose source outcome.close
-LevelsComeTo source (Some bytes) outcome = outcome ≡ at_once (levels_close source (form_on bytes) bytes)
+-- the outcome of a run on what was opened, where its source is a vertex
+abbrev pub sourced_outcome : Wish → Opened → List (List ℕ) → Option ℕ → Outcome
+sourced_outcome wish opened helds None = run_outcome wish opened.header (run_on wish opened helds)
+sourced_outcome wish opened helds (Some source) =
+    if nat_le opened.header.n source
+    then at_once (Refuses (Refusal.BadSource source opened.header.n))
+    else run_outcome wish opened.header (run_on wish opened helds)
 
--- the same of a job
-abbrev pub JobComesTo : Job → Option (List ℕ) → Outcome → Type 0
-JobComesTo (Job.Run (Pick.Bfs source)) told outcome = LevelsComeTo source told outcome
+-- the outcome of a run on drives that hold these bytes and open so
+abbrev pub opened_outcome : Wish → List (List ℕ) → Result Opened Refusal → Outcome
+opened_outcome wish helds (Err refusal) = at_once (Refuses refusal)
+opened_outcome wish helds (Ok opened) = sourced_outcome wish opened helds (source_of wish.pick)
 
--- the same of what the words give
-abbrev pub GivenComesTo : Result Job WordFault → Option (List ℕ) → Outcome → Type 0
-GivenComesTo (Err fault) told outcome = outcome ≡ at_once (Refuses (Words fault))
+unfoldable pub outcome_of : Wish → List (List ℕ) → Outcome
+outcome_of wish helds = opened_outcome wish helds (opening_of helds)
+
+-- a source that some number of vertices refuses
+abbrev pub IsOwnSource : Option ℕ → ℕ → ℕ → Type 0
+IsOwnSource None source vertices = ⊥
+IsOwnSource (Some own) source vertices = (own ≡ source) × (vertices ≤ source)
+
+-- how a run may close where some drive doesn't tell its bytes: done, or refused for what drives hold, for its own source
+-- or for a bad edge
+abbrev pub MayClose : Wish → Close → Type 0
+MayClose wish (Done text) = Unit {0}
+MayClose wish (Refuses (Refusal.BadSource source vertices)) = IsOwnSource (source_of wish.pick) source vertices
+MayClose wish (Refuses (Refusal.BadEdge bad)) = Unit {0}
+MayClose wish (Refuses refusal) = MatchOpening refusal ⊥ (λ drive. ⊥) (Unit {0})
+
+-- the run that is wished for comes to this outcome, by what the drives tell of their bytes
+abbrev pub WishComesTo : Wish → Option (List (List ℕ)) → Outcome → Type 0
+WishComesTo wish None outcome = MayClose wish outcome.close
+WishComesTo wish (Some helds) outcome = outcome ≡ outcome_of wish helds
+
+-- the same of a job, and of what the words give
+abbrev pub JobComesTo : Job → Option (List (List ℕ)) → Outcome → Type 0
+JobComesTo job told outcome = WishComesTo (wish_of job) told outcome
+
+abbrev pub GivenComesTo : Result Job WordFault → Option (List (List ℕ)) → Outcome → Type 0
+GivenComesTo (Err fault) told outcome = outcome ≡ at_once (Refuses (Refusal.Words fault))
 GivenComesTo (Ok job) told outcome = JobComesTo job told outcome
 
--- the words come to this outcome, by what the first drive tells of its bytes
-abbrev pub ComesTo : List (List ℕ) → Option (List ℕ) → Outcome → Type 0
+-- the words come to this outcome, by what the drives tell of their bytes
+abbrev pub ComesTo : List (List ℕ) → Option (List (List ℕ)) → Outcome → Type 0
 ComesTo words told outcome = GivenComesTo (job_of words) told outcome

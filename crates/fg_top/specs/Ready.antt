@@ -1,10 +1,10 @@
 -- What the engine that reads pages needs.
-use Rattle.std.specs.Prelude.{◌≡◌, ℕ, List, ◌+◌, ◌≤◌, length}
-use Rattle.fg_top.specs.declared.opened.Opened.{Opened}
-use Rattle.fg_top.specs.Opening.{FitsTogether}
+use Rattle.std.specs.Prelude.{◌≡◌, ℕ, List, length}
+use Rattle.fg_build.specs.Answers.{HoldWhole, OpenedFits}
+use Rattle.fg_build.specs.declared.opened.Opened.{Opened}
 
--- what was found fits together, there is room for one page, and the drive told the image's pages
-pub record IsReady (opened : Opened) (page : List ℕ) (told : ℕ) : Type 0 where
-  pub fits : FitsTogether opened
+-- what was opened fits together, there is room for one page, and each drive told its pages of the image
+pub record IsReady {D : Type 0} (told_of : D → ℕ) (drives : List D) (opened : Opened) (page : List ℕ) : Type 0 where
+  pub fits : OpenedFits opened
   pub whole : length page ≡ 4096
-  pub pages_told : 1 + opened.pages ≤ told
+  pub told : HoldWhole told_of opened.layout drives

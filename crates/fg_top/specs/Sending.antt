@@ -5,7 +5,14 @@ use Rattle.fg_base.specs.declared.plain.VState.{VState}
 use Rattle.fg_model.specs.Iteration.{folded, state_at}
 use Rattle.fg_model.specs.Program.{Rules}
 use Rattle.fg_model.specs.VertexRun.{Message}
+use Rattle.fg_image.specs.Lists.{entries_at}
+use Rattle.fg_base.specs.declared.plain.Entry.{Entry}
+use Rattle.fg_top.specs.declared.lists.Part.{Part}
 use Rattle.fg_top.specs.declared.send.Sender.{Sender}
+
+-- the entries of this part on this page
+abbrev pub entries_of : Part → List ℕ → List Entry
+entries_of part page = entries_at part.weighted page part.from part.count
 
 -- the first of these edges that leads to no vertex below n
 abbrev pub first_bad_of : ℕ → List BadEdge → Option BadEdge

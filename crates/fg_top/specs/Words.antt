@@ -1,46 +1,125 @@
--- The words of the command line, each a list of bytes: exactly `run --program bfs --source S DRIVE`.
-use Rattle.std.specs.Prelude.{◌≡◌, ℕ, Bool, Result, Ok, Err, List, [], ◌∷◌, ◌^◌, ◌&&◌, nat_le, nat_lt, nat_eq, length, if◌then◌else◌, codes, is_ok, drop}
-use Rattle.std.specs.Cmp.Lexicographic.{pointwise}
-use Rattle.std.specs.List.{list_all}
-use Rattle.std.specs.Str.Parse.{digits_value}
-use Rattle.std.specs.Char.{is_ascii_digit}
-use Rattle.fg_base.specs.declared.refusal.Opt.TheVariants.{Source}
+-- The words of the command line behind the program's name, each a list of bytes: COMMAND, then options, then drives.
+use Rattle.std.specs.Prelude.{ℕ, Bool, true, false, Option, Some, None, Result, Ok, Err, List, [], ◌∷◌, ◌≡◌, ◌&&◌, not, nat_eq, length, if◌then◌else◌, codes, is_ok, option_map}
+use Rattle.std.specs.List.{list_all, list_any, starts_with}
+use Rattle.std.specs.Option.{option_map_or}
+use Rattle.fg_base.specs.declared.refusal.Opt.{Opt}
+use Rattle.fg_base.specs.declared.refusal.Opt.TheVariants.{Program}
 use Rattle.fg_base.specs.declared.refusal.WordFault.{WordFault}
-use Rattle.fg_base.specs.declared.refusal.WordFault.TheVariants.{Parse, Range}
+use Rattle.fg_base.specs.declared.refusal.WordFault.TheVariants.{Parse, Command as UnknownCommand, Range}
 use Rattle.fg_top.specs.declared.jobs.Job.{Job}
-use Rattle.fg_top.specs.declared.jobs.Job.TheVariants.{Run}
-use Rattle.fg_top.specs.declared.jobs.Pick.TheVariants.{Bfs}
+use Rattle.fg_top.specs.declared.jobs.Job.TheVariants.{Run as JobRun, Ref as JobRef}
 use Rattle.fg_top.specs.declared.jobs.JobFault.{JobFault}
 use Rattle.fg_top.specs.declared.jobs.JobFault.TheVariants.{Memory, Words}
+use Rattle.fg_top.specs.declared.jobs.Pick.{Pick}
+use Rattle.fg_top.specs.declared.jobs.Pick.TheVariants.{Bfs as PickBfs, Sssp as PickSssp, Rank as PickRank}
+use Rattle.fg_top.specs.declared.words.command.Command.{Command}
+use Rattle.fg_top.specs.declared.words.command.Command.TheVariants.{Run, Ref}
+use Rattle.fg_top.specs.declared.words.command.ProgramName.{ProgramName}
+use Rattle.fg_top.specs.declared.words.command.ProgramName.TheVariants.{Bfs, Sssp, Rank}
+use Rattle.fg_top.specs.declared.words.command_line.CommandLine.{CommandLine}
+use Rattle.fg_top.specs.declared.words.said.Said.{Said}
+use Rattle.fg_top.specs.declared.words.said.Said.TheVariants.{Value}
+use Rattle.fg_top.specs.CommandLine.{Given, is_same, is_flag, option_of, command_of, line_of, value_or, fault_of}
 
--- a number is one to twenty digits
-abbrev pub is_number : List ℕ → Bool
-is_number word = nat_le 1 (length word) && nat_le (length word) 20 && list_all is_ascii_digit word
+-- options with their values, and the drives behind them
+pub record Parts : Type 0 where
+  pub given : List Given
+  pub drives : List (List ℕ)
 
--- the source that a word names, a number below 2^32
-abbrev pub source_of : List ℕ → Result ℕ WordFault
-source_of word = if is_number word && nat_lt (digits_value 10 word) (2 ^ 32) then Ok (digits_value 10 word) else Err (Range Source)
+-- the parts with one more option in front
+abbrev pub led_by : Given → Option Parts → Option Parts
+led_by first None = None
+led_by first (Some parts) = Some (record { given = first ∷ parts.given; drives = parts.drives })
 
--- two words are the same
-abbrev pub is_word : List ℕ → List ℕ → Bool
-is_word word text = pointwise nat_eq word text
+-- the parts behind an option's word: those that follow a flag, or those that begin with the option's value
+abbrev pub behind_option : Option Opt → Option Parts → Option Parts → Option Parts
+behind_option None flagged valued = None
+behind_option (Some option) flagged valued =
+    if is_flag option then led_by (record { option = option; value = [] }) flagged else valued
 
--- the job with this source
-abbrev pub job_from : Result ℕ WordFault → Result Job WordFault
-job_from (Ok source) = Ok (Run (Bfs source))
-job_from (Err fault) = Err fault
+-- the first word stands in an option's place, and begins as an option does
+abbrev pub is_option_first : List (List ℕ) → Bool
+is_option_first [] = false
+is_option_first (word ∷ words) = starts_with nat_eq word (codes "--")
 
--- the job that the words ask for, or what is wrong with them; the drive may be any word
+-- The parts of words, the first of which is the value of an option where one waits for it; none where an option isn't
+-- known or has no value.
+abbrev pub parts_from : Option Opt → List (List ℕ) → Option Parts
+parts_from None [] = Some (record { given = []; drives = [] })
+parts_from (Some option) [] = None
+parts_from (Some option) (value ∷ words) = led_by (record { option = option; value = value }) (parts_from None words)
+parts_from None (word ∷ words) =
+    if is_option_first (word ∷ words)
+    then behind_option (option_of word) (parts_from None words) (parts_from (option_of word) words)
+    else Some (record { given = []; drives = word ∷ words })
+
+-- each option comes at most once
+abbrev pub is_each_once : List Given → Bool
+is_each_once [] = true
+is_each_once (one ∷ given) = not (list_any (λ other. is_same one.option other.option) given) && is_each_once given
+
+-- the word doesn't begin with `-`
+abbrev pub is_drive : List ℕ → Bool
+is_drive word = not (starts_with nat_eq word (codes "-"))
+
+-- the parts where each option comes once and each drive may be one
+abbrev pub proper : Option Parts → Option Parts
+proper None = None
+proper (Some parts) = if is_each_once parts.given && list_all is_drive parts.drives then Some parts else None
+
+-- the parts of the words behind COMMAND, where they have a reading
+abbrev pub parts_of : List (List ℕ) → Option Parts
+parts_of words = proper (parts_from None words)
+
+-- what the words behind COMMAND say, where they have a reading
+abbrev pub line_read : List (List ℕ) → Option CommandLine
+line_read words = option_map (λ parts. line_of parts.given parts.drives) (parts_of words)
+
+-- the line with these drives, unless one begins with `-`
+abbrev pub with_drives : CommandLine → List (List ℕ) → Option CommandLine
+with_drives line drives = if list_all is_drive drives then Some (record line { drives = length drives }) else None
+
+-- the vertex program that is named, with its source or its cut; there is one where nothing is wrong with the words
+abbrev pub picked : Said ProgramName → Said ℕ → Said ℕ → Option Pick
+picked (Value Bfs) (Value source) cut = Some (PickBfs source)
+picked (Value Sssp) (Value source) cut = Some (PickSssp source)
+picked (Value Rank) source cut = Some (PickRank (value_or cut 1048))
+picked program source cut = None
+
+-- the pick of a line
+abbrev pub pick_of : CommandLine → Option Pick
+pick_of line = picked line.program line.source line.cut
+
+-- the job of a command at a program
+abbrev pub job_from : Command → Pick → CommandLine → Job
+job_from Run pick line = JobRun pick (value_or line.max 4294967295) line.each line.quiet
+job_from Ref pick line = JobRef pick (value_or line.max 4294967295) line.each line.quiet
+
+-- the answer, by what is wrong with the words; where nothing is, a program is named
+abbrev pub answer : Option WordFault → Option Pick → Command → CommandLine → Result Job WordFault
+answer (Some fault) pick command line = Err fault
+answer None (Some pick) command line = Ok (job_from command pick line)
+answer None None command line = Err (Range Program)
+
+-- the answer, by the command and by what the words behind it say: words that have no reading are refused first
+abbrev pub judged : Option Command → Option CommandLine → Result Job WordFault
+judged command None = Err Parse
+judged None (Some line) = Err UnknownCommand
+judged (Some command) (Some line) = answer (fault_of command line) (pick_of line) command line
+
+-- the job that the words ask for, or what is wrong with them
 abbrev pub job_of : List (List ℕ) → Result Job WordFault
-job_of (command ∷ option ∷ name ∷ start ∷ number ∷ drive ∷ []) =
-    if is_word command (codes "run") && is_word option (codes "--program") && is_word name (codes "bfs") && is_word start (codes "--source")
-    then job_from (source_of number)
-    else Err Parse
-job_of _ = Err Parse
+job_of [] = Err Parse
+job_of (command ∷ words) = judged (command_of command) (line_read words)
+
+-- the drives of words that have a reading
+abbrev pub drives_of : List (List ℕ) → List (List ℕ)
+drives_of [] = []
+drives_of (command ∷ words) = option_map_or (λ parts. parts.drives) (parts_of words) []
 
 -- the drives that an accepted job names; none where the words are refused
 abbrev pub names_of : List (List ℕ) → List (List ℕ)
-names_of words = if is_ok (job_of words) then drop 5 words else []
+names_of words = if is_ok (job_of words) then drives_of words else []
 
 -- an answer says what the words ask for, or what is wrong with them, or that memory is wanting
 abbrev pub IsJobOf : List (List ℕ) → Result Job JobFault → Type 0

@@ -1,66 +1,77 @@
-//! Opening a drive: its label, header and index are read, each page alone, and judged.
+//! The drives of a job are opened, and its source is looked at.
 
-ghost use Rattle.std.specs.Prelude.{◌≡◌, ◌+◌, ◌≤◌, IfOk, IfSome, None, OnOk, Some, length};
-ghost use Rattle.fg_base.specs.Told.{grown, GrewByFirst};
-ghost use Rattle.fg_top.specs.Form.{form_on};
-ghost use Rattle.fg_top.specs.OpenFault.{Judges, OpenCounts};
-ghost use Rattle.fg_top.specs.Opening.{opening_on, FitsTogether};
+ghost use Rattle.std.specs.Prelude.{◌≡◌, ◌≢◌, ◌≤◌, None, Ok, Some, IfErr, IfOk, IfSome, MatchOption, OnOk, length};
+ghost use Rattle.fg_base.specs.declared.limits.TheConstants.{MAX_DRIVES};
+ghost use Rattle.fg_base.specs.declared.refusal.Refusal.TheVariants.{OutputFault as output_fault};
+ghost use Rattle.fg_build.specs.Answers.{HoldWhole, OpenedFits};
+ghost use Rattle.fg_build.specs.Opening.{opening_of};
+ghost use Rattle.fg_build.specs.OpeningReads.{opening_reads};
+ghost use Rattle.fg_outside.specs.Drives.{EachSame, LogsGrew, LogsGrewByFirst, NoneRose, RoomyKept, all_told};
+ghost use Rattle.fg_report.specs.Refusals.{refusal_line};
+ghost use Rattle.fg_top.specs.Ends.{IsCause};
+ghost use Rattle.fg_top.specs.Meaning.{MeansWish};
+ghost use Rattle.fg_top.specs.Outcome.{WishComesTo, source_of};
+ghost use Rattle.fg_top.specs.Running.{IsSourced};
 
-mod bytes;
-mod fault;
-mod front;
-mod header;
-mod index;
-mod index_pages;
-mod label;
-#[cfg(test)]
-pub(crate) mod tests;
-
-use crate::opened::Opened;
-pub use fault::OpenFault;
-use fg_base::limits::PAGE_BYTES;
+use crate::jobs::{Pick, Wish};
+use fg_base::Refusal;
+use fg_build::{Opened, open};
 use fg_outside::Drive;
-use front::read_front;
-use index::{is_index, opened};
-use index_pages::read_index;
 use std::alloc::Global;
 
-/// Reads the drive's label, its image's header, then each page of the index, ascending, each page alone, and answers
-/// what they tell of the image.
-///
-/// A failed call of the drive ends the work there. `Unbuilt` comes where the bytes don't hold the form. Memory is taken
-/// for one page, the index, and its degrees; want of it may come at any point.
-pub fn open<D: Drive>(alloc: Global, drive: &mut D) -> Result<Opened, OpenFault>
-    ensures form { IfSome (D.held drive.old) (λ bytes. Judges
-        (λ opened. form_on bytes ≡ Some opened) (form_on bytes ≡ None) result) }
-    ensures fits { IfOk result FitsTogether }
-    ensures told { IfOk result (λ opened. 1 + opened.pages ≤ D.told drive.new) }
-
-    // Whole where it answers Ok, and some first reads of it at every answer.
-    ensures reads { OnOk result (IfSome (D.held drive.old) (λ bytes.
-        D.log drive.new ≡ grown (D.log drive.old) (opening_on bytes))) }
-    ensures first_reads { IfSome (D.held drive.old) (λ bytes.
-        GrewByFirst (opening_on bytes) (D.log drive.old) (D.log drive.new)) }
-
-    ensures held { D.held drive.new ≡ D.held drive.old }
-    ensures counts { OpenCounts (D.faults drive.old) (D.faults drive.new) result }
+/// The source of a program that has one.
+fn source_of(pick: Pick) -> Option<u32>
+    ensures { result ≡ source_of pick }
 {
-    let Ok(mut page) = vec![in alloc; 0; PAGE_BYTES] else {
-        return Err(OpenFault::Memory);
-    };
-    let header = match read_front(drive, &mut page) {
-        Ok(header) => header,
-        Err(fault) => return Err(fault),
-    };
-    let index = match read_index(alloc, drive, header, &mut page) {
-        Ok(index) => index,
-        Err(fault) => return Err(fault),
-    };
-    if !is_index(&index, header) {
-        return Err(OpenFault::Unbuilt);
+    match pick {
+        Pick::Bfs(source) => Some(source),
+        Pick::Sssp(source) => Some(source),
+        Pick::Rank(_) => None,
     }
-    let Ok(opened) = opened(alloc, header, &index) else {
-        return Err(OpenFault::Memory);
+}
+
+/// The source of the program, where it has one that is no vertex.
+fn bad_source(pick: Pick, vertices: u32) -> Option<u32>
+    ensures { MatchOption result (IsSourced pick vertices) (λ source. (source_of pick ≡ Some source) × (vertices ≤ source)) }
+{
+    let Some(source) = source_of(pick) else {
+        return None;
     };
+    if source < vertices {
+        return None;
+    }
+    Some(source)
+}
+
+/// Opens the drives, and looks whether the source is a vertex.
+pub fn open_sourced<D: Drive>(
+    alloc: Global,
+    wish: Wish,
+    drives: &mut Vec<D>,
+) -> Result<Opened, Refusal>
+    requires some { 1 ≤ length drives.old.items }
+    requires few { length drives.old.items ≤ MAX_DRIVES }
+    ensures opening { IfOk result (λ opened. IfSome (all_told D.held drives.old.items) (λ helds. opening_of helds ≡ Ok opened)) }
+    ensures fits { IfOk result OpenedFits }
+    ensures told { IfOk result (λ opened. HoldWhole D.told opened.layout drives.new.items) }
+    ensures sourced { IfOk result (λ opened. IsSourced wish.pick opened.header.n) }
+    ensures kept { OnOk result (NoneRose D.faults drives.old.items drives.new.items) }
+    ensures cause { IfErr result (λ refusal. IsCause D.faults drives.old.items drives.new.items (WishComesTo wish (all_told D.held drives.old.items)) (Some refusal) (refusal_line refusal)) }
+    ensures not_output { IfErr result (λ refusal. refusal ≢ output_fault) }
+    ensures means { OnOk result (IfSome (all_told D.held drives.old.items) (λ helds. MeansWish wish helds (opening_of helds))) }
+    ensures reads { IfSome (all_told D.held drives.old.items) (λ helds. LogsGrewByFirst D.log (opening_reads helds) drives.old.items drives.new.items) }
+    ensures all_read { OnOk result (IfSome (all_told D.held drives.old.items) (λ helds. LogsGrew D.log (opening_reads helds) drives.old.items drives.new.items)) }
+    ensures held { EachSame D.held drives.old.items drives.new.items }
+    ensures room { EachSame D.room drives.old.items drives.new.items }
+    ensures sure { RoomyKept D.room D.faults drives.old.items drives.new.items }
+{
+    let opened = match open(alloc, drives) {
+        Ok(opened) => opened,
+        Err(refusal) => return Err(refusal),
+    };
+    let vertices = opened.header.n;
+    if let Some(source) = bad_source(wish.pick, vertices) {
+        return Err(Refusal::BadSource(source, vertices));
+    }
     Ok(opened)
 }

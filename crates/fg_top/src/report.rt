@@ -1,16 +1,21 @@
-//! The last text of a job, and its status.
+//! What a job writes besides the lines of its iterations.
 
-ghost use Rattle.std.specs.Prelude.{◌≡◌, ◌≢◌, ◌≤◌, ◌^◌, None, Ok, Some, IfOk, IfErr, length};
+ghost use Rattle.std.specs.Prelude.{◌≡◌, ◌≢◌, ◌≤◌, ◌^◌, ◌++◌, Contains, IfOk, OnErr, OnOk, Some, length};
+ghost use Rattle.fg_base.specs.Faults.{Counts};
+ghost use Rattle.fg_base.specs.Told.{grown, GrewByFirst};
 ghost use Rattle.fg_base.specs.declared.refusal.Refusal.TheVariants.{OutputFault as output_fault};
+ghost use Rattle.fg_report.specs.Lines.{program_names};
 ghost use Rattle.fg_report.specs.Refusals.{refusal_line};
 ghost use Rattle.fg_top.specs.Ends.{IsWritten, output_between};
-ghost use Rattle.fg_top.specs.Work.{refusal_in, job_text, words_refusal};
+ghost use Rattle.fg_top.specs.Outcome.{head_of, name_of, values_or_sum};
+ghost use Rattle.fg_top.specs.Running.{IsClosed, IsRunRefused, last_text, words_refusal};
 
-use crate::jobs::{Job, JobFault, Pick};
-use fg_base::{Items, Refusal, VState};
+use crate::jobs::{JobFault, Pick};
+use fg_base::{Failed, Refusal, VState};
+use fg_image::Header;
+use fg_model::{End, Program, RunFault};
 use fg_outside::Sink;
-use fg_report::{write_refusal, write_values};
-use fg_walks::Bfs;
+use fg_report::{write_end, write_head, write_refusal, write_sum, write_values};
 
 /// The refusal of words that give no job.
 pub fn refusal_of_words(fault: JobFault) -> Refusal
@@ -23,38 +28,141 @@ pub fn refusal_of_words(fault: JobFault) -> Refusal
     }
 }
 
+/// Writes a refusal's line as the last of a job's text, and hands on all that the output gathered.
+fn write_refused<K: Sink>(out: &mut K, refusal: &Refusal) -> Result<(), Failed>
+    requires { refusal.now ≢ output_fault }
+    ensures whole { OnOk result (K.written out.new ≡ grown (K.written out.old) (refusal_line refusal.now)) }
+    ensures part { OnErr result (GrewByFirst (refusal_line refusal.now) (K.written out.old) (K.written out.new)) }
+    ensures counted { Counts (K.faults out.old) (K.faults out.new) result }
+{
+    if let Err(failed) = write_refusal(out, refusal) {
+        return Err(failed);
+    }
+    out.flush()
+}
+
 /// Writes a refusal's line; the status is the refusal's, or the output's where a put fails.
 pub fn refuse<K: Sink>(out: &mut K, refusal: Refusal) -> u8
     requires { refusal ≢ output_fault }
     ensures { IsWritten (output_between (K.faults out.old) (K.faults out.new) (K.written out.old) (K.written out.new)) (Some refusal) (refusal_line refusal) result }
 {
-    if let Err(_) = write_refusal(out, &refusal) {
+    if let Err(_) = write_refused(out, &refusal) {
         return Refusal::OutputFault.status();
     }
     refusal.status()
 }
 
-/// Writes the value lines of the job's last states, or the refusal's line.
-pub fn write_answer<K: Sink>(out: &mut K, job: Job, answer: Result<Items<VState>, Refusal>) -> u8
-    requires few { IfOk answer (λ states. length states ≤ 2 ^ 32) }
-    requires not_output { IfErr answer (λ refusal. refusal ≢ output_fault) }
-    ensures { IsWritten (output_between (K.faults out.old) (K.faults out.new) (K.written out.old) (K.written out.new)) (refusal_in answer) (job_text job answer) result }
+/// The program's name as it is written.
+fn name_of(pick: Pick) -> &'static str
+    ensures name { result.now ≡ name_of pick }
+    ensures known { Contains program_names result.now }
 {
-    match answer {
-        Ok(states) => write_states(out, job, states),
-        Err(refusal) => refuse(out, refusal),
+    match pick {
+        Pick::Bfs(_) => "bfs",
+        Pick::Sssp(_) => "sssp",
+        Pick::Rank(_) => "rank",
     }
 }
 
-/// Writes the value lines of a job's last states.
-fn write_states<K: Sink>(out: &mut K, job: Job, states: Items<VState>) -> u8
-    requires { length states ≤ 2 ^ 32 }
-    ensures { IsWritten (output_between (K.faults out.old) (K.faults out.new) (K.written out.old) (K.written out.new)) None (job_text job (Ok states)) result }
+/// Writes the head of a run: the program and the counts of the header.
+pub fn write_head_of<K: Sink>(out: &mut K, pick: Pick, header: &Header) -> Result<(), Failed>
+    ensures whole { OnOk result (K.written out.new ≡ grown (K.written out.old) (head_of pick header.now)) }
+    ensures part { OnErr result (GrewByFirst (head_of pick header.now) (K.written out.old) (K.written out.new)) }
+    ensures counted { Counts (K.faults out.old) (K.faults out.new) result }
 {
-    let Job::Run {
-        pick: Pick::Bfs(source),
-    } = job;
-    if let Err(_) = write_values(out, &Bfs { source }, states.as_slice()) {
+    write_head(
+        out,
+        name_of(pick),
+        header.n,
+        header.out_entries,
+        header.in_entries,
+    )
+}
+
+/// Writes the values of these states, or their sum.
+fn write_values_or_sum<P: Program, K: Sink>(
+    out: &mut K,
+    program: &P,
+    quiet: bool,
+    states: &[VState],
+) -> Result<(), Failed>
+    requires { length states.now ≤ 2 ^ 32 }
+    ensures whole { OnOk result (K.written out.new ≡ grown (K.written out.old) (values_or_sum quiet (P.rules program.now).show states.now)) }
+    ensures part { OnErr result (GrewByFirst (values_or_sum quiet (P.rules program.now).show states.now) (K.written out.old) (K.written out.new)) }
+    ensures counted { Counts (K.faults out.old) (K.faults out.new) result }
+{
+    if quiet {
+        write_sum(out, program, states)
+    } else {
+        write_values(out, program, states)
+    }
+}
+
+/// Writes the values of these states, or their sum, as the last of a job's text, and hands on all that the output gathered.
+fn write_closing<P: Program, K: Sink>(
+    out: &mut K,
+    program: &P,
+    quiet: bool,
+    states: &[VState],
+) -> Result<(), Failed>
+    requires { length states.now ≤ 2 ^ 32 }
+    ensures whole { OnOk result (K.written out.new ≡ grown (K.written out.old) (values_or_sum quiet (P.rules program.now).show states.now)) }
+    ensures part { OnErr result (GrewByFirst (values_or_sum quiet (P.rules program.now).show states.now) (K.written out.old) (K.written out.new)) }
+    ensures counted { Counts (K.faults out.old) (K.faults out.new) result }
+{
+    if let Err(failed) = write_values_or_sum(out, program, quiet, states) {
+        return Err(failed);
+    }
+    out.flush()
+}
+
+/// Writes the end line of a run, and its values or their sum, which end the job's text.
+#[tactic(auto, using(fg_base::proofs::GrowthLemmas::growth))]
+fn write_last<P: Program, K: Sink>(
+    out: &mut K,
+    program: &P,
+    quiet: bool,
+    end: &End,
+) -> Result<(), Failed>
+    requires { length end.now.states ≤ 2 ^ 32 }
+    ensures whole { OnOk result (K.written out.new ≡ grown (K.written out.old) (last_text quiet (P.rules program.now).show end.now)) }
+    ensures part { OnErr result (GrewByFirst (last_text quiet (P.rules program.now).show end.now) (K.written out.old) (K.written out.new)) }
+    ensures counted { Counts (K.faults out.old) (K.faults out.new) result }
+{
+    if let Err(failed) = write_end(out, end.settled, end.iterations) {
+        return Err(failed);
+    }
+    write_closing(out, program, quiet, end.states.as_slice())
+}
+
+/// Writes the line of what refused a run, and nothing where a put has failed already. The answer is the status.
+fn refuse_run<K: Sink>(out: &mut K, fault: RunFault) -> u8
+    ensures { IsRunRefused (output_between (K.faults out.old) (K.faults out.new) (K.written out.old) (K.written out.new)) fault result }
+{
+    match fault {
+        RunFault::Memory => refuse(out, Refusal::Memory),
+        RunFault::Drive(drive) => refuse(out, Refusal::DriveFault(drive)),
+        RunFault::BadEdge(bad) => refuse(out, Refusal::BadEdge(bad)),
+        RunFault::Watch => Refusal::OutputFault.status(),
+    }
+}
+
+/// Writes the end of a run: its end line and its values or their sum, or the line of what refused it, and nothing where a
+/// put has failed already. The answer is the status.
+pub fn close_run<P: Program, K: Sink>(
+    out: &mut K,
+    program: &P,
+    quiet: bool,
+    answer: Result<End, RunFault>,
+) -> u8
+    requires { IfOk answer (λ end. length end.states ≤ 2 ^ 32) }
+    ensures { IsClosed quiet (P.rules program.now).show (output_between (K.faults out.old) (K.faults out.new) (K.written out.old) (K.written out.new)) answer result }
+{
+    let end = match answer {
+        Ok(end) => end,
+        Err(fault) => return refuse_run(out, fault),
+    };
+    if let Err(_) = write_last(out, program, quiet, &end) {
         return Refusal::OutputFault.status();
     }
     0

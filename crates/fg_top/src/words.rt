@@ -1,94 +1,93 @@
-//! The words of the command line, read by hand: exactly `run --program bfs --source S DRIVE`.
+//! The words of the command line, read by hand: COMMAND, then options, then drives.
 
-ghost use Rattle.std.specs.Prelude.{◌≡◌, ◌↔◌, map, string_bytes, IsNone, OnOk, MatchResult, IfOk, IfErr, length};
-ghost use Rattle.std.specs.List.{list_all};
-ghost use Rattle.std.specs.Char.{is_ascii_digit};
-ghost use Rattle.fg_top.specs.Words.{is_number, source_of, IsJobOf, names_of};
+ghost use Rattle.std.specs.Prelude.{◌≡◌, ◌≢◌, Err, map, string_bytes, IsNone, IfOk, IfErr, length};
+ghost use Rattle.fg_top.specs.Words.{job_of, names_of, IsJobOf};
 
-use crate::jobs::{Job, JobFault, Pick};
+mod command;
+mod command_line;
+mod number;
+mod said;
+#[cfg(test)]
+mod tests;
+
+use crate::jobs::{Job, JobFault};
+use command::Command;
+use command_line::CommandLine;
 use fg_base::{Memory, Opt, WordFault};
 use std::alloc::Global;
 
-/// Whether each byte is a digit.
-fn is_all_digits(bytes: &[u8]) -> bool
-    ensures { result ≡ list_all is_ascii_digit bytes.now }
-{
-    bytes.iter().all(|byte| byte.is_ascii_digit())
+/// What accepted words ask for.
+#[derive(Clone, Copy, PartialEq, Eq, Debug)]
+struct Accepted {
+    job: Job,
+    /// How many drives are named.
+    drives: usize,
 }
 
-/// Whether the word is a number: one to twenty digits.
-fn is_numeral(word: &str) -> bool
-    ensures { result ≡ is_number word.now }
+/// What the words ask for, or what is wrong with them.
+fn accept(words: &[String]) -> Result<Accepted, WordFault>
+    ensures job { IfOk result (λ accepted. job_of (map string_bytes words.now) ≡ Ok accepted.job) }
+    ensures drives { IfOk result (λ accepted. accepted.drives ≡ length (names_of (map string_bytes words.now))) }
+    ensures refused { IfErr result (λ fault. job_of (map string_bytes words.now) ≡ Err fault) }
 {
-    let bytes = word.as_bytes();
-    if bytes.is_empty() {
-        return false;
-    }
-    if bytes.len() > 20 {
-        return false;
-    }
-    is_all_digits(bytes)
-}
-
-/// The source that a word spells.
-#[tactic(auto, using(crate::proofs::NumberLemmas::numeral_of))]
-fn read_source(word: &str) -> Result<u32, WordFault>
-    ensures { result ≡ source_of word.now }
-{
-    if !is_numeral(word) {
-        return Err(WordFault::Range(Opt::Source));
-    }
-    match word.parse::<u32>() {
-        Ok(source) => Ok(source),
-        Err(_) => Err(WordFault::Range(Opt::Source)),
-    }
-}
-
-/// What the words ask for. Refuses every other list than `run --program bfs --source S DRIVE` as unreadable, but for
-/// an `S` that isn't a number in its range.
-pub fn job(_alloc: Global, words: &Vec<String>) -> Result<Job, JobFault>
-    ensures { IsJobOf (map string_bytes words.now.items) result }
-{
-    let [command, option, name, start, number, _drive] = words.as_slice() else {
-        return Err(JobFault::Words(WordFault::Parse));
+    let [command, others @ ..] = words else {
+        return Err(WordFault::Parse);
     };
-    if command.as_str() != "run" {
-        return Err(JobFault::Words(WordFault::Parse));
+    let Some(line) = CommandLine::read(others) else {
+        return Err(WordFault::Parse);
+    };
+    let Some(command) = Command::named(command.as_str()) else {
+        return Err(WordFault::Command);
+    };
+    if let Some(fault) = line.fault(command) {
+        return Err(fault);
     }
-    if option.as_str() != "--program" {
-        return Err(JobFault::Words(WordFault::Parse));
-    }
-    if name.as_str() != "bfs" {
-        return Err(JobFault::Words(WordFault::Parse));
-    }
-    if start.as_str() != "--source" {
-        return Err(JobFault::Words(WordFault::Parse));
-    }
-    match read_source(number.as_str()) {
-        Ok(source) => Ok(Job::Run {
-            pick: Pick::Bfs(source),
+    match line.pick() {
+        Some(pick) => Ok(Accepted {
+            job: line.job(command, pick),
+            drives: line.drives,
         }),
+        None => Err(WordFault::Range(Opt::Program)),
+    }
+}
+
+/// What the words ask for. It takes no memory.
+pub fn job(_alloc: Global, words: &Vec<String>) -> Result<Job, JobFault>
+    ensures job { IsJobOf (map string_bytes words.now.items) result }
+    ensures takes_no_memory { IfErr result (λ fault. fault ≢ JobFault.Memory) }
+{
+    match accept(words.as_slice()) {
+        Ok(accepted) => Ok(accepted.job),
         Err(fault) => Err(JobFault::Words(fault)),
     }
 }
 
-/// The names of the drives that an accepted job works on, and none where the words are refused.
+/// The words that name drives, where the words are accepted.
+fn names(words: &[String]) -> &[String]
+    ensures { map string_bytes result.now ≡ names_of (map string_bytes words.now) }
+{
+    match accept(words) {
+        Ok(accepted) => &words[words.len() - accepted.drives..],
+        Err(_) => &[],
+    }
+}
+
+/// Copies of the words.
+fn copies(alloc: Global, words: &[String]) -> Result<Vec<String>, Memory>
+    ensures { IfOk result (λ copies. map string_bytes copies.items ≡ map string_bytes words.now) }
+{
+    let mut copies = Vec::new(alloc);
+    for word in words {
+        copies.push(word.clone()?)?;
+    }
+    Ok(copies)
+}
+
+/// The names of the drives that an accepted job works on, from 1 to 16, and none where the words are refused.
 pub fn drive_names(alloc: Global, words: &Vec<String>) -> Result<Vec<String>, Memory>
     ensures { IfOk result (λ names. map string_bytes names.items ≡ names_of (map string_bytes words.now.items)) }
 {
-    let [_, _, _, _, _, drive] = words.as_slice() else {
-        return Ok(Vec::new(alloc));
-    };
-    match job(alloc, words) {
-        Ok(_) => {
-            let mut names = Vec::new(alloc);
-            let name = drive.clone()?;
-            names.push(name)?;
-            Ok(names)
-        }
-        Err(JobFault::Words(_)) => Ok(Vec::new(alloc)),
-        Err(JobFault::Memory) => Err(Memory),
-    }
+    copies(alloc, names(words.as_slice()))
 }
 
 /// The name of the file that an accepted job reads as its input: no job reads one yet.

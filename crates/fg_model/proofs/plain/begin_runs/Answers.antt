@@ -45,16 +45,16 @@ loop-v-preserved g c =
     let v = c.loop-v.v in
     let inv = c.loop-v.invariant in
     let awake : P.wake phase (state_at states v) ≡ true = cc (c.if-not-wake.false, c.wake.ensures) in
-    let is_begun = c.begin-carry.ensures.value in
+    let begun = c.begin_one.ensures in
     record {
       the_end = refl;
-      one_entries = c.begin-carry.ensures.entries ∙ inv.one_entries;
-      more_runs = omega (arith, c.begin-carry.ensures.runs, inv.more_runs, c.in_ok-push-3.ensures.len);
+      one_entries = begun.entries ∙ inv.one_entries;
+      more_runs = omega (arith, begun.runs, inv.more_runs, c.in_ok-push-3.ensures.len);
       few_active = omega (arith, inv.few_active, c.in_ok-push-3.ensures.len);
-      rest_next = ap (λ (xs : List VState). xs ++ runs_from (v + 1) P phase (drop (v + 1) states)) (c.in_ok-push-2.ensures.items ∙ ap (λ (p : VState × ℕ). c.loop-v.next.items ++ p.0 ∷ []) is_begun)
+      rest_next = ap (λ (xs : List VState). xs ++ runs_from (v + 1) P phase (drop (v + 1) states)) (c.in_ok-push-2.ensures.items ∙ ap (λ (s : VState). c.loop-v.next.items ++ s ∷ []) begun.state)
           ∙ sym (runs-awake P phase v states c.loop-v.next.items c.loop-v-test.true awake) ∙ inv.rest_next;
       rest_active = ap (λ (xs : List Active). xs ++ active_from (v + 1) (length states - (v + 1)) P phase states)
-          (c.in_ok-push-3.ensures.items ∙ ap (λ (p : VState × ℕ). let a : Active = record { v = v; carry = p.1 } in c.loop-v.active.items ++ a ∷ []) is_begun)
+          (c.in_ok-push-3.ensures.items ∙ ap (λ (a : Active). c.loop-v.active.items ++ a ∷ []) begun.active)
           ∙ sym (active-awake P phase v (length states - v) (length states - (v + 1)) states c.loop-v.active.items (omega (arith, c.loop-v-test.true)) awake) ∙ inv.rest_active;
     }
 

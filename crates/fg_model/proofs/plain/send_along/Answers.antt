@@ -1,10 +1,9 @@
-use Rattle.std.proofs.Common.{◌≡◌, ◌+◌, ◌<◌, ◌≤◌, List, length, map, drop, refl, ap, sym, ◌∙◌, arith}
+use Rattle.std.proofs.Common.{◌+◌, ◌<◌, ◌≤◌, List, length, map, drop, refl, ap, sym, ◌∙◌, arith}
 use Rattle.std.specs.Prelude.{find}
-use Rattle.std.proofs.Math.ListN.{set}
 use Rattle.std.proofs.lemmas.List.{at_drop_all}
 use Rattle.fg_base.specs.declared.plain.Entry.{Entry}
 use Rattle.fg_base.specs.declared.plain.VState.{VState}
-use Rattle.fg_model.specs.Iteration.{folded, is_bad, state_at}
+use Rattle.fg_model.specs.Iteration.{folded, is_bad}
 use Rattle.fg_model.specs.VertexRun.{edges_from, message_along}
 use Rattle.fg_model.proofs.IterationLemmas.{entry_at, entry_bad, entry_folded, entry_good, folded-nil}
 use Rattle.fg_model.proofs.plain.send_along.Goals as goal
@@ -12,10 +11,10 @@ use Rattle.fg_model.proofs.plain.send_along.Goals as goal
 pub loop-place-init : goal.loop-place-init
 loop-place-init g c = record { one_runs = refl; more_entries = omega arith; rest_bad = refl; rest_folded = refl }
 
-pub returns-then-target-states : goal.returns-then-target-states
-returns-then-target-states g c =
+pub returns-then-entry-states : goal.returns-then-entry-states
+returns-then-entry-states g c =
     let inv = c.loop-place.invariant in
-    let past : length c.args.states.now ≤ (entry_at c.args.entries.now c.loop-place.place).target = omega (arith, c.if-target-states.true, c.loop-place.auto.states) in
+    let past : length c.args.states.now ≤ (entry_at c.args.entries.now c.loop-place.place).target = omega (arith, c.if-entry-states.true, c.loop-place.auto.states) in
     record {
       runs = inv.one_runs;
       ok_sound = tt;
@@ -24,8 +23,8 @@ returns-then-target-states g c =
       err = sym inv.rest_bad ∙ entry_bad (length c.args.states.now) c.args.from.v c.args.dir c.loop-place.place c.args.entries.now c.loop-place-test.true past;
     }
 
-pub edge-m-requires : goal.edge-m-requires
-edge-m-requires g c = omega (arith, c.loop-place.invariant.more_entries, c.requires.room, c.loop-place-test.true)
+pub send_one-requires-clause-room : goal.send_one-requires-clause-room
+send_one-requires-clause-room g c = omega (arith, c.loop-place.invariant.more_entries, c.requires.room, c.loop-place-test.true)
 
 pub loop-place-preserved : goal.loop-place-preserved
 loop-place-preserved g c =
@@ -35,15 +34,13 @@ loop-place-preserved g c =
     let place = c.loop-place.place in
     let states = c.loop-place.states in
     let entry = entry_at entries place in
-    let good : entry.target < length states = omega (arith, c.if-target-states.false) in
+    let good : entry.target < length states = omega (arith, c.if-entry-states.false) in
     let good_first : entry.target < length c.args.states.now = omega (arith, good, c.loop-place.auto.states) in
-    let is_new : c.receive.result ≡ P.receive (state_at states entry.target) (P.edge c.args.from.carry c.args.dir entry) =
-    c.receive.ensures ∙ ap (P.receive (state_at states entry.target)) c.edge-m.ensures.value in
     record {
-      one_runs = c.edge-m.ensures.runs ∙ inv.one_runs;
-      more_entries = omega (arith, c.edge-m.ensures.entries, inv.more_entries);
+      one_runs = c.send_one.ensures.runs ∙ inv.one_runs;
+      more_entries = omega (arith, c.send_one.ensures.entries, inv.more_entries);
       rest_bad = sym (entry_good (length c.args.states.now) c.args.from.v c.args.dir place entries c.loop-place-test.true good_first) ∙ inv.rest_bad;
-      rest_folded = ap (λ (s : VState). folded P (map (message_along P c.args.from.carry c.args.dir) (drop (place + 1) entries)) (set states entry.target s)) is_new
+      rest_folded = ap (λ (xs : List VState). folded P (map (message_along P c.args.from.carry c.args.dir) (drop (place + 1) entries)) xs) c.send_one.ensures.states
           ∙ sym (entry_folded P c.args.from.carry c.args.dir place entries states c.loop-place-test.true good) ∙ inv.rest_folded;
     }
 

@@ -2,6 +2,7 @@ use Rattle.std.proofs.Common.{◌≡◌, ◌+◌, ◌*◌, ◌≤◌, true, List
 use Rattle.fg_model.specs.Iteration.{AreStates, Begun}
 use Rattle.fg_model.specs.Program.{Rules}
 use Rattle.fg_model.specs.Run.{Finished}
+use Rattle.fg_model.specs.Watch.{Grew}
 use Rattle.fg_model.proofs.RunLemmas.{Known, begun_in}
 use Rattle.fg_model.proofs.run.run_engine.Given as goal
 
@@ -17,6 +18,8 @@ invariant-loop-number g l =
       all_allowed : (rules : Rules) (begun : Begun) → g.E.Engine.allows first rules begun → g.E.Engine.allows l.engine rules begun;
       all_kept : g.E.Engine.kept first l.engine;
       one_told : g.W.Watch.told l.watch ≡ g.W.Watch.told l.initial.watch;
+      one_borrows : g.W.Watch.same_borrows l.initial.watch l.watch;
+      grew : Grew (g.W.Watch.notes l.initial.watch) (g.W.Watch.notes l.watch);
       one_count : g.W.Watch.faults l.watch ≡ g.W.Watch.faults l.initial.watch;
       are_states : AreStates graph.n l.states;
       runs_room : g.T.Tally.runs l.tally ≤ g.T.Tally.runs l.initial.tally + l.number * 16777216;

@@ -1,28 +1,29 @@
-use Rattle.std.proofs.Common.{◌-◌, ◌≡◌, ◌+◌, ◌*◌, ◌≤◌, All, length, map, true}
+use Rattle.std.proofs.Common.{◌-◌, ◌≡◌, ◌+◌, ◌≤◌, All, length, map, true}
 use Rattle.fg_model.specs.Program.{IsInRange}
 use Rattle.fg_model.specs.VertexRun.{edges_from, message_along}
-use Rattle.fg_top.specs.Asked.{IsPageOf, OnlyRead, drive_state}
-use Rattle.fg_top.specs.Lists.{begin_of, bytes_of, entries_at, entries_on, is_told}
-use Rattle.fg_top.proofs.PagesSending.{GoesOn}
+use Rattle.fg_outside.specs.Drives.{NoneRose, all_told}
+use Rattle.fg_top.specs.Lists.{entries_on, image_told, is_told}
+use Rattle.fg_top.specs.OnlyRead.{IsPageIn, OnlyRead, telling}
+use Rattle.fg_top.proofs.PagesEntries.{entries_behind}
+use Rattle.fg_top.proofs.PagesSending.{ListGoesOn}
 use Rattle.fg_top.proofs.send_list.send_list.Given as goal
 
 abbrev pub invariant-loop-done : goal.invariant-loop-done
 invariant-loop-done g l =
     let P = g.P.Program.rules l.program in
-    let bytes = bytes_of (g.D.Drive.held l.initial.drive) in
+    let T = telling g.D.Drive.held g.D.Drive.log g.D.Drive.told g.D.Drive.room g.D.Drive.faults in
+    let told = all_told g.D.Drive.held l.initial.drives in
+    let image = image_told l.opened.layout told in
     record {
       within_list : l.done ≤ l.stretch.count;
-      only_so_far : OnlyRead (IsPageOf l.stretch)
-          (drive_state (g.D.Drive.held l.initial.drive) (g.D.Drive.log l.initial.drive) (g.D.Drive.told l.initial.drive) (g.D.Drive.room l.initial.drive))
-          (drive_state (g.D.Drive.held l.drive) (g.D.Drive.log l.drive) (g.D.Drive.told l.drive) (g.D.Drive.room l.drive));
-      same_faults : g.D.Drive.faults l.drive ≡ g.D.Drive.faults l.initial.drive;
+      only_so_far : OnlyRead T (IsPageIn l.opened.layout l.stretch) l.initial.drives l.drives;
+      same_faults : NoneRose g.D.Drive.faults l.initial.drives l.drives;
       same_runs : g.T.Tally.runs l.tally ≡ g.T.Tally.runs l.initial.tally;
       more_entries : g.T.Tally.entries l.tally ≡ g.T.Tally.entries l.initial.tally + l.done;
       all_fit : All IsInRange l.states;
-      goes : is_told (g.D.Drive.held l.initial.drive) ≡ true → GoesOn P (length l.initial.states)
-          (edges_from l.sender.v l.dir 0 (entries_on bytes l.stretch)) (map (message_along P l.sender.carry l.dir) (entries_on bytes l.stretch)) l.initial.states
-          (edges_from l.sender.v l.dir l.done (entries_at bytes (begin_of l.stretch + l.done * 4) (l.stretch.count - l.done)))
-          (map (message_along P l.sender.carry l.dir) (entries_at bytes (begin_of l.stretch + l.done * 4) (l.stretch.count - l.done))) l.states;
+      goes : is_told told ≡ true → ListGoesOn P (length l.initial.states) l.sender.v l.dir l.sender.carry
+          (edges_from l.sender.v l.dir 0 (entries_on image l.stretch)) (map (message_along P l.sender.carry l.dir) (entries_on image l.stretch)) l.initial.states
+          l.done (entries_behind l.stretch.weighted image l.stretch.begin l.stretch.count l.done) l.states;
     }
 
 abbrev pub decreases-loop-done : goal.decreases-loop-done

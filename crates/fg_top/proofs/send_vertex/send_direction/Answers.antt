@@ -1,19 +1,23 @@
 use Rattle.std.proofs.Common.{◌≡◌, ◌≤◌, length, sym, ap, ◌∙◌, arith}
 use Rattle.std.specs.List.{slice_index}
 use Rattle.std.proofs.lemmas.Result.{IfOk-weaker}
+use Rattle.fg_image.proofs.EntryLaws.{length-entries_at}
+use Rattle.fg_image.proofs.SpanLaws.{begin_whole, end_within}
+use Rattle.fg_index.specs.ImageIndex.{degrees_in}
+use Rattle.fg_outside.specs.Drives.{all_told}
 use Rattle.fg_top.specs.declared.lists.Stretch.{Stretch}
-use Rattle.fg_top.specs.Lists.{begin_of, bytes_of, degrees_of, edges_on, entries_on, stretch_of}
-use Rattle.fg_top.proofs.PagesEntries.{length-entries_at, length-edges_from}
-use Rattle.fg_top.proofs.PagesStretches.{stretch-told, stretch-few}
+use Rattle.fg_top.specs.Lists.{edges_on, entries_on, image_told, stretch_of}
+use Rattle.fg_top.proofs.PagesEntries.{length-edges_from}
 use Rattle.fg_top.proofs.send_vertex.send_direction.Goals as goal
 
-pub send_list-requires-clause-told : goal.send_list-requires-clause-told
-send_list-requires-clause-told g c =
-    rw c.new-stretch.ensures (stretch-told c.args.opened.now c.args.dir c.args.sender.v (g.D.Drive.told c.args.drive.now) c.requires.fits c.requires.within c.requires.told)
+pub send_list-requires-clause-within : goal.send_list-requires-clause-within
+send_list-requires-clause-within g c =
+    let o = c.args.opened.now in
+    rw c.new-stretch.ensures (end_within o.layout o.index c.args.dir c.args.sender.v c.requires.fits.index c.requires.within)
 
-pub send_list-requires-clause-few : goal.send_list-requires-clause-few
-send_list-requires-clause-few g c =
-    let few = stretch-few c.args.opened.now c.args.dir c.args.sender.v c.requires.fits c.requires.within in rw c.new-stretch.ensures (omega arith)
+pub send_list-requires-clause-entire : goal.send_list-requires-clause-entire
+send_list-requires-clause-entire g c =
+    let o = c.args.opened.now in rw c.new-stretch.ensures (begin_whole o.layout o.index c.args.dir c.args.sender.v)
 
 pub send_list-requires-clause-room : goal.send_list-requires-clause-room
 send_list-requires-clause-room g c = rw c.new-stretch.ensures c.requires.room
@@ -26,15 +30,16 @@ returns-clause-ok g c = rw c.new-stretch.ensures at c.send_list.ensures.ok
 
 pub returns-clause-ok_count : goal.returns-clause-ok_count
 returns-clause-ok_count g c =
-    let bytes = bytes_of (g.D.Drive.held c.args.drive.now) in
-    let stretch = stretch_of c.args.opened.now c.args.dir c.args.sender.v in
-    IfOk-weaker c.send_list.result (λ messages. messages ≡ c.new-stretch.result.count) (λ messages. messages ≡ length (edges_on c.args.opened.now bytes c.args.sender.v c.args.dir))
-    (λ messages count. count ∙ ap (λ (s : Stretch). s.count) c.new-stretch.ensures ∙ sym (length-entries_at bytes stretch.count (begin_of stretch)) ∙ sym (length-edges_from c.args.sender.v c.args.dir (entries_on bytes stretch) 0))
+    let o = c.args.opened.now in
+    let image = image_told o.layout (all_told g.D.Drive.held c.args.drives.now) in
+    let stretch = stretch_of o c.args.dir c.args.sender.v in
+    IfOk-weaker c.send_list.result (λ messages. messages ≡ c.new-stretch.result.count) (λ messages. messages ≡ length (edges_on o image c.args.sender.v c.args.dir))
+    (λ messages count. count ∙ ap (λ (s : Stretch). s.count) c.new-stretch.ensures ∙ sym (length-entries_at stretch.weighted image stretch.begin stretch.count) ∙ sym (length-edges_from c.args.sender.v c.args.dir (entries_on image stretch) 0))
     c.send_list.ensures.ok_count
 
 pub returns-clause-ok_few : goal.returns-clause-ok_few
 returns-clause-ok_few g c =
-    IfOk-weaker c.send_list.result (λ messages. messages ≡ c.new-stretch.result.count) (λ messages. messages ≤ slice_index (degrees_of c.args.opened.now c.args.dir) c.args.sender.v)
+    IfOk-weaker c.send_list.result (λ messages. messages ≡ c.new-stretch.result.count) (λ messages. messages ≤ slice_index (degrees_in c.args.opened.now.index c.args.dir) c.args.sender.v)
     (λ messages count. let same = ap (λ (s : Stretch). s.count) c.new-stretch.ensures in omega arith)
     c.send_list.ensures.ok_count
 

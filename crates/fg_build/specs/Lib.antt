@@ -1,0 +1,10 @@
+pub mod Answers
+pub mod Building
+pub mod Calls
+pub mod Front
+pub mod Labelled
+pub mod Labels
+pub mod Layouts
+pub mod Opening
+pub mod OpeningReads
+pub mod Pages

@@ -1,0 +1,18 @@
+//! Drives that hold an image together: opening them, and reading the image.
+//!
+//! Below stand the drives of the outside, their labels and striping, and the image with its header and index. What runs on an
+//! image opens its drives here, and knows them by what opening answered.
+#![tactic(auto)]
+
+mod front;
+mod labels;
+mod opened;
+mod opening;
+mod pages;
+mod reading;
+#[cfg(test)]
+mod tests;
+
+pub use opened::Opened;
+pub use opening::open;
+pub use reading::read_all;

@@ -1,0 +1,5 @@
+pub mod Front
+pub mod Header
+pub mod Image
+pub mod Lists
+pub mod Made

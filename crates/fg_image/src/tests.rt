@@ -1,0 +1,377 @@
+//! The header, the sections and the graphs of a small image written by hand: five vertices, five edges.
+
+use crate::parts::read_parts;
+use crate::{Header, graph_of};
+use fg_base::limits::PAGE_BYTES;
+use fg_base::{Entry, Items, Refusal};
+use fg_model::Graph;
+use fg_stripe::Layout;
+use std::alloc::{AllocError, Global};
+use std::test::Fail;
+
+/// The first bytes of the header page; the others are zeros.
+const FRONT: [u8; 76] = [
+    70, 71, 73, 77, 65, 71, 69, 0, 1, 0, 0, 0, 0, 0, 0, 0, 5, 0, 0, 0, 4, 0, 0, 0, 5, 0, 0, 0, 0,
+    0, 0, 0, 5, 0, 0, 0, 0, 0, 0, 0, 20, 0, 0, 0, 0, 0, 0, 0, 20, 0, 0, 0, 0, 0, 0, 0, 18, 0, 0, 0,
+    0, 0, 0, 0, 1, 0, 0, 0, 2, 0, 0, 0, 3, 0, 0, 0,
+];
+
+/// The numbers of that page.
+const HEADER: Header = Header {
+    version: 1,
+    flags: 0,
+    n: 5,
+    pages: 4,
+    out_entries: 5,
+    in_entries: 5,
+    out_bytes: 20,
+    in_bytes: 20,
+    index_bytes: 18,
+    out_first: 1,
+    in_first: 2,
+    index_first: 3,
+};
+
+/// What the header page reads as, with these bytes of it changed.
+fn read_with(changes: &[(usize, u8)]) -> Result<Header, Refusal> {
+    let mut page = [0u8; PAGE_BYTES];
+    page[..76].copy_from_slice(&FRONT);
+    for (place, byte) in changes {
+        if *place < page.len() {
+            page[*place] = *byte;
+        }
+    }
+    Header::read(&page)
+}
+
+#[test]
+fn a_header_is_read(rt: HostRuntime) {
+    assert_eq!(rt; read_with(&[]), Ok(HEADER));
+    assert_eq!(rt; read_with(&[(12, 1)]), Ok(Header { flags: 1, ..HEADER }));
+    // the greatest counts
+    assert_eq!(rt;
+        read_with(&[(16, 0), (19, 1), (24, 0), (27, 4), (32, 0), (35, 4)]),
+        Ok(Header {
+            n: 16_777_216,
+            out_entries: 67_108_864,
+            in_entries: 67_108_864,
+            ..HEADER
+        })
+    );
+}
+
+#[test]
+fn a_bad_header_is_refused(rt: HostRuntime) {
+    // the mark comes first, then the version
+    assert_eq!(rt; read_with(&[(8, 3)]), Err(Refusal::BadVersion(3)));
+    assert_eq!(rt;
+        read_with(&[(8, 0), (12, 2), (76, 1)]),
+        Err(Refusal::BadVersion(0))
+    );
+    assert_eq!(rt; read_with(&[(0, 71), (8, 3)]), Err(Refusal::BadHeader));
+    // a mark at its end, the flags, a count at its low and its high byte, the first and the last byte behind
+    let places = [
+        (7, 1),
+        (12, 2),
+        (15, 1),
+        (19, 1),
+        (27, 4),
+        (31, 1),
+        (35, 4),
+        (39, 128),
+        (76, 1),
+        (4095, 128),
+    ];
+    for change in places {
+        assert_eq!(rt; read_with(&[change]), Err(Refusal::BadHeader));
+    }
+}
+
+#[test]
+fn sections_stand_one_behind_the_other(rt: HostRuntime) {
+    let layout = Layout {
+        drives: 1,
+        unit: 1,
+        pages: 4,
+        out_first: 1,
+        in_first: 2,
+    };
+    assert_eq!(rt; HEADER.sections(4), Ok(layout));
+    let weighted = Header {
+        flags: 1,
+        out_bytes: 40,
+        in_bytes: 40,
+        ..HEADER
+    };
+    assert_eq!(rt; weighted.sections(4), Ok(layout));
+    // no entries, and so no page for them
+    let bare = Header {
+        pages: 2,
+        out_entries: 0,
+        in_entries: 0,
+        out_bytes: 0,
+        in_bytes: 0,
+        in_first: 1,
+        index_first: 1,
+        ..HEADER
+    };
+    assert_eq!(rt;
+        bare.sections(2),
+        Ok(Layout {
+            pages: 2,
+            in_first: 1,
+            ..layout
+        })
+    );
+}
+
+#[test]
+fn sections_that_disagree_are_refused(rt: HostRuntime) {
+    let longest = u64::MAX;
+    let half = 9_223_372_036_854_775_808;
+    let headers = [
+        Header { flags: 1, ..HEADER },
+        Header { pages: 3, ..HEADER },
+        Header { pages: 5, ..HEADER },
+        Header {
+            out_entries: 4,
+            ..HEADER
+        },
+        Header {
+            out_entries: 6,
+            ..HEADER
+        },
+        Header {
+            in_entries: 4,
+            ..HEADER
+        },
+        Header {
+            in_entries: 6,
+            ..HEADER
+        },
+        Header {
+            out_bytes: 19,
+            ..HEADER
+        },
+        Header {
+            out_bytes: 21,
+            ..HEADER
+        },
+        Header {
+            in_bytes: 19,
+            ..HEADER
+        },
+        Header {
+            in_bytes: 21,
+            ..HEADER
+        },
+        Header {
+            index_bytes: 0,
+            ..HEADER
+        },
+        Header {
+            index_bytes: 4097,
+            ..HEADER
+        },
+        Header {
+            out_first: 0,
+            ..HEADER
+        },
+        Header {
+            out_first: 2,
+            ..HEADER
+        },
+        Header {
+            in_first: 1,
+            ..HEADER
+        },
+        Header {
+            in_first: 3,
+            ..HEADER
+        },
+        Header {
+            index_first: 2,
+            ..HEADER
+        },
+        Header {
+            index_first: 4,
+            ..HEADER
+        },
+        // numbers whose products or sums don't fit into 64 bits
+        Header {
+            out_entries: half,
+            out_bytes: 0,
+            in_first: 1,
+            ..HEADER
+        },
+        Header {
+            out_bytes: half,
+            ..HEADER
+        },
+        Header {
+            in_bytes: half,
+            ..HEADER
+        },
+        Header {
+            index_bytes: half,
+            ..HEADER
+        },
+        Header {
+            out_entries: longest,
+            out_bytes: longest,
+            ..HEADER
+        },
+        Header {
+            in_entries: longest,
+            in_bytes: longest,
+            ..HEADER
+        },
+        Header {
+            index_bytes: longest,
+            ..HEADER
+        },
+        Header {
+            in_first: u32::MAX,
+            index_first: 0,
+            ..HEADER
+        },
+    ];
+    for header in &headers {
+        assert_eq!(rt; header.sections(4), Err(Refusal::BadSections));
+    }
+    assert_eq!(rt; HEADER.sections(3), Err(Refusal::BadSections));
+    assert_eq!(rt; HEADER.sections(5), Err(Refusal::BadSections));
+}
+
+/// The image with these flags and bytes of a section, and with these sections.
+fn image_with(
+    alloc: Global,
+    flags: u8,
+    bytes: u8,
+    outs: &[u8; 40],
+    ins: &[u8; 40],
+) -> Result<Vec<u8>, AllocError> {
+    let mut image = vec![in alloc; 0u8; 4 * PAGE_BYTES]?;
+    image[..76].copy_from_slice(&FRONT);
+    image[12] = flags;
+    image[40] = bytes;
+    image[48] = bytes;
+    image[4096..4136].copy_from_slice(outs);
+    image[8192..8232].copy_from_slice(ins);
+    image[12288..12306].copy_from_slice(&[2, 1, 1, 1, 0, 0, 0, 0, 0, 0, 1, 1, 2, 1, 0, 0, 0, 0]);
+    Ok(image)
+}
+
+/// The graph of the bytes, where they are an image of four pages.
+fn graph_in(alloc: Global, image: &Vec<u8>) -> Option<Graph> {
+    if image.len() != 4 * PAGE_BYTES {
+        return None;
+    }
+    match read_parts(alloc, image, 4) {
+        Ok(_) => graph_of(alloc, image).ok(),
+        Err(_) => None,
+    }
+}
+
+fn entry(target: u32, weight: u32) -> Entry {
+    Entry { target, weight }
+}
+
+/// Whether the vertices have these lists.
+fn are_rows(rows: &Items<Items<Entry>>, wanted: &[&[Entry]]) -> bool {
+    let rows = rows.as_slice();
+    rows.len() == wanted.len()
+        && rows
+            .iter()
+            .zip(wanted)
+            .all(|(row, list)| row.as_slice() == *list)
+}
+
+#[test]
+fn an_unweighted_graph_is_cut_out(rt: HostRuntime) -> Result<(), Fail> {
+    let outs = [
+        1, 0, 0, 0, 2, 0, 0, 0, 3, 0, 0, 0, 3, 0, 0, 0, 4, 0, 0, 0, 0, 0, 0, 0, 0, 0, 0, 0, 0, 0,
+        0, 0, 0, 0, 0, 0, 0, 0, 0, 0,
+    ];
+    let ins = [
+        0, 0, 0, 0, 0, 0, 0, 0, 1, 0, 0, 0, 2, 0, 0, 0, 3, 0, 0, 0, 0, 0, 0, 0, 0, 0, 0, 0, 0, 0,
+        0, 0, 0, 0, 0, 0, 0, 0, 0, 0,
+    ];
+    let image = image_with(rt.alloc(), 0, 20, &outs, &ins)?;
+    match graph_in(rt.alloc(), &image) {
+        Some(graph) => {
+            assert!(rt; graph.n == 5 && !graph.weighted);
+            assert!(rt;
+                are_rows(
+                    &graph.outs,
+                    &[
+                        &[entry(1, 1), entry(2, 1)],
+                        &[entry(3, 1)],
+                        &[entry(3, 1)],
+                        &[entry(4, 1)],
+                        &[]
+                    ]
+                )
+            );
+            assert!(rt;
+                are_rows(
+                    &graph.ins,
+                    &[
+                        &[],
+                        &[entry(0, 1)],
+                        &[entry(0, 1)],
+                        &[entry(1, 1), entry(2, 1)],
+                        &[entry(3, 1)]
+                    ]
+                )
+            );
+        }
+        None => assert!(rt; false),
+    }
+    Ok(())
+}
+
+#[test]
+fn a_weighted_graph_is_cut_out(rt: HostRuntime) -> Result<(), Fail> {
+    let outs = [
+        1, 0, 0, 0, 7, 0, 0, 0, 2, 0, 0, 0, 0, 0, 0, 0, 3, 0, 0, 0, 255, 255, 255, 255, 3, 0, 0, 0,
+        0, 1, 0, 0, 4, 0, 0, 0, 1, 0, 0, 0,
+    ];
+    // a target that is no vertex is cut out as it stands
+    let ins = [
+        0, 0, 0, 0, 7, 0, 0, 0, 0, 0, 0, 0, 0, 0, 0, 0, 1, 0, 0, 0, 255, 255, 255, 255, 2, 0, 0, 0,
+        0, 1, 0, 0, 3, 0, 0, 128, 1, 0, 0, 0,
+    ];
+    let image = image_with(rt.alloc(), 1, 40, &outs, &ins)?;
+    match graph_in(rt.alloc(), &image) {
+        Some(graph) => {
+            assert!(rt; graph.n == 5 && graph.weighted);
+            assert!(rt;
+                are_rows(
+                    &graph.outs,
+                    &[
+                        &[entry(1, 7), entry(2, 0)],
+                        &[entry(3, u32::MAX)],
+                        &[entry(3, 256)],
+                        &[entry(4, 1)],
+                        &[]
+                    ]
+                )
+            );
+            assert!(rt;
+                are_rows(
+                    &graph.ins,
+                    &[
+                        &[],
+                        &[entry(0, 7)],
+                        &[entry(0, 0)],
+                        &[entry(1, u32::MAX), entry(2, 256)],
+                        &[entry(2_147_483_651, 1)]
+                    ]
+                )
+            );
+        }
+        None => assert!(rt; false),
+    }
+    Ok(())
+}

@@ -1,0 +1,163 @@
+-- A job, by what opening its drives and its run did.
+use Rattle.std.proofs.Common.{◌≡◌, ◌∙◌, ℕ, Option, None, Some, IfSome, Result, Ok, List, [], ◌∷◌, refl, sym, ap, subst, inl, inr}
+use Rattle.std.proofs.lemmas.List.{append-nil}
+use Rattle.std.proofs.lemmas.Option.{IfSome_then}
+use Rattle.fg_base.specs.Faults.{Rose}
+use Rattle.fg_base.specs.Told.{grown, GrewByFirst}
+use Rattle.fg_base.specs.declared.refusal.Refusal.{Refusal}
+use Rattle.fg_build.specs.declared.opened.Opened.{Opened}
+use Rattle.fg_build.specs.Opening.{graph_on, opening_of}
+use Rattle.fg_build.specs.OpeningReads.{opening_reads, whole_reads}
+use Rattle.fg_image.specs.declared.header.Header.{Header}
+use Rattle.fg_model.specs.declared.graph.Graph.{Graph}
+use Rattle.fg_model.specs.Run.{Run}
+use Rattle.fg_outside.specs.declared.drive.Read.{Read}
+use Rattle.fg_outside.specs.Drives.{LogsGrew, LogsGrewBy, LogsGrewByFirst, NoneRose}
+use Rattle.fg_outside.proofs.DriveLemmas.{EachDrive-same, LogsGrew-more, LogsGrewBy-none, LogsGrewByFirst-before, LogsGrewByFirst-more}
+use Rattle.fg_report.specs.Refusals.{refusal_line}
+use Rattle.fg_top.specs.declared.jobs.Wish.{Wish}
+use Rattle.fg_top.specs.Ends.{Ends, IsCause, IsWritten, output_between}
+use Rattle.fg_top.specs.Outcome.{Done, Outcome, WishComesTo, at_once, head_of, outcome_of, rules_of, run_on, run_outcome}
+use Rattle.fg_top.specs.Reads.{IsAskedBy, RunReads, RunReadsAll, image_reads_of, ref_reads}
+use Rattle.fg_top.specs.Running.{IsSourced, RunComesTo, behind_head, run_in}
+use Rattle.fg_top.specs.Tallies.{RoseByRun, RoseByWish, Tallied}
+use Rattle.fg_top.proofs.EndLemmas.{behind, ends_behind, ends_given_up, ends_in_memory, refused_status}
+use Rattle.fg_top.proofs.OutcomeLemmas.{comes_behind_head, comes_in_memory, runs_so}
+
+-- the job ends where a refusal's line was written, or its put failed
+pub ends_refused : {D : Type 0} (faults : D → ℕ) (olds news : List D) (comes : Outcome → Type 0) (refusal : Refusal)
+    (f0 f1 : ℕ) (t0 t1 : Option (List ℕ)) (status : ℕ) → IsCause faults olds news comes (Some refusal) (refusal_line refusal) →
+    IsWritten (output_between f0 f1 t0 t1) (Some refusal) (refusal_line refusal) status →
+    Ends faults olds news comes (output_between f0 f1 t0 t1) status
+ends_refused faults olds news comes refusal f0 f1 t0 t1 status cause written =
+    record { end = Some refusal; text = refusal_line refusal; cause = cause; written = written }
+
+-- what the run comes to, whatever it is
+some_run : {A : Type 0} → Wish → Option A → (A → Outcome) → Outcome
+some_run wish None outcome_of = at_once (Done [])
+some_run wish (Some told) outcome_of = outcome_of told
+
+some_run-is : (wish : Wish) (told : Option (List (List ℕ))) (run_of : List (List ℕ) → Run) →
+    RunComesTo (rules_of wish.pick) wish told run_of (some_run wish told (λ helds. behind_head (rules_of wish.pick) wish (run_of helds)))
+unfolding some_run
+some_run-is wish None run_of = tt
+some_run-is wish (Some helds) run_of = refl
+
+-- the job ends where the put of the head failed
+pub ends_at_head : {D : Type 0} (faults : D → ℕ) (olds news : List D) (wish : Wish) (told : Option (List (List ℕ))) (header : Header) (run_of : List (List ℕ) → Run)
+    (f0 f1 : ℕ) (t0 t1 : Option (List ℕ)) (status : ℕ) →
+    IfSome told (λ helds. outcome_of wish helds ≡ run_outcome wish header (run_of helds)) → Rose f0 f1 →
+    GrewByFirst (head_of wish.pick header) t0 t1 → status ≡ 4 →
+    Ends faults olds news (WishComesTo wish told) (output_between f0 f1 t0 t1) status
+ends_at_head faults olds news wish told header run_of f0 f1 t0 t1 status so rose grew failed =
+    let head = head_of wish.pick header in
+    let run = some_run wish told (λ helds. behind_head (rules_of wish.pick) wish (run_of helds)) in
+    let Of : List ℕ → Type 0 = λ text. GrewByFirst text t0 t1 in
+    ends_given_up faults olds news (WishComesTo wish told) (behind (head ∷ []) run) 1 f0 f1 t0 t1 status
+    (comes_behind_head wish told header run_of so run (some_run-is wish told run_of)) rose (subst Of (sym (append-nil head)) grew) failed
+
+-- the end of the run behind the head is the job's end
+pub ends_after_head : {D : Type 0} (faults : D → ℕ) (olds betweens news : List D) (wish : Wish) (told again : Option (List (List ℕ))) (header : Header)
+    (run_of : List (List ℕ) → Run) (f0 f1 f2 : ℕ) (t0 t1 t2 : Option (List ℕ)) (status : ℕ) →
+    again ≡ told → IfSome told (λ helds. outcome_of wish helds ≡ run_outcome wish header (run_of helds)) → NoneRose faults olds betweens →
+    f1 ≡ f0 → t1 ≡ grown t0 (head_of wish.pick header) →
+    Ends faults betweens news (RunComesTo (rules_of wish.pick) wish again run_of) (output_between f1 f2 t1 t2) status →
+    Ends faults olds news (WishComesTo wish told) (output_between f0 f2 t0 t2) status
+ends_after_head faults olds betweens news wish told again header run_of f0 f1 f2 t0 t1 t2 status same so kept left grew ends =
+    let head = head_of wish.pick header in
+    let Of : Option (List (List ℕ)) → Type 0 = λ told. Ends faults betweens news (RunComesTo (rules_of wish.pick) wish told run_of) (output_between f1 f2 t1 t2) status in
+    ends_behind faults olds betweens news (RunComesTo (rules_of wish.pick) wish told run_of) (WishComesTo wish told) (head ∷ []) f0 f1 f2 t0 t1 t2 status
+    (comes_behind_head wish told header run_of so) kept left (grew ∙ ap (grown t0) (sym (append-nil head))) (subst Of same ends)
+
+-- the same of a run in memory
+pub ends_in_memory_after_head : {D : Type 0} (faults : D → ℕ) (olds news : List D) (wish : Wish) (told : Option (List (List ℕ))) (header : Header) (graph : Graph)
+    (f0 f1 f2 : ℕ) (t0 t1 t2 : Option (List ℕ)) (status : ℕ) →
+    IfSome told (λ helds. outcome_of wish helds ≡ run_outcome wish header (run_in wish graph)) → NoneRose faults olds news →
+    f1 ≡ f0 → t1 ≡ grown t0 (head_of wish.pick header) →
+    Ends {D = ℕ} (λ drive. drive) [] [] (RunComesTo (rules_of wish.pick) wish (Some graph) (run_in wish)) (output_between f1 f2 t1 t2) status →
+    Ends faults olds news (WishComesTo wish told) (output_between f0 f2 t0 t2) status
+ends_in_memory_after_head faults olds news wish told header graph f0 f1 f2 t0 t1 t2 status so kept left grew ends =
+    ends_after_head faults olds news news wish told told header (λ helds. run_in wish graph) f0 f1 f2 t0 t1 t2 status refl so kept left grew
+    (ends_in_memory faults news news (RunComesTo (rules_of wish.pick) wish (Some graph) (run_in wish)) (RunComesTo (rules_of wish.pick) wish told (λ helds. run_in wish graph))
+    (output_between f1 f2 t1 t2) status (comes_in_memory wish told graph) (EachDrive-same (λ old new. faults new ≡ faults old) (λ drive. refl) news) ends)
+
+-- the outcome of a run over the graph that was read
+pub runs_loaded : (wish : Wish) (told again : Option (List (List ℕ))) (opened : Opened) (graph : Graph) → again ≡ told →
+    IfSome told (λ helds. opening_of helds ≡ Ok opened) → IsSourced wish.pick opened.header.n → IfSome again (λ helds. graph ≡ graph_on opened helds) →
+    IfSome told (λ helds. outcome_of wish helds ≡ run_outcome wish opened.header (run_in wish graph))
+runs_loaded wish told again opened graph same opening sourced read =
+    let Of : Option (List (List ℕ)) → Type 0 = λ told. IfSome told (λ helds. graph ≡ graph_on opened helds) in
+    loaded told (runs_so wish told opened opening sourced) (subst Of same read) where
+      loaded : (told : Option (List (List ℕ))) → IfSome told (λ helds. outcome_of wish helds ≡ run_outcome wish opened.header (run_on wish opened helds)) →
+          IfSome told (λ helds. graph ≡ graph_on opened helds) → IfSome told (λ helds. outcome_of wish helds ≡ run_outcome wish opened.header (run_in wish graph))
+      loaded None so read = tt
+      loaded (Some helds) so read = so ∙ ap (λ graph. run_outcome wish opened.header (run_in wish graph)) (sym read)
+
+-- what is read of the drives by a run in memory: where opening ended, where reading ended, and all
+pub ref_reads_first : {D : Type 0} (log : D → Option (List Read)) (told : Option (List (List ℕ))) (olds news : List D) →
+    IfSome told (λ helds. LogsGrewByFirst log (opening_reads helds) olds news) → IfSome told (λ helds. LogsGrewByFirst log (ref_reads helds) olds news)
+ref_reads_first log told olds news reads =
+    IfSome_then told reads (λ helds first. LogsGrewByFirst-before log (opening_reads helds) (image_reads_of (opening_of helds)) olds news first)
+
+pub ref_reads_some : {D : Type 0} (log : D → Option (List Read)) (told : Option (List (List ℕ))) (opened : Opened) (olds betweens news : List D) →
+    IfSome told (λ helds. opening_of helds ≡ Ok opened) → IfSome told (λ helds. LogsGrew log (opening_reads helds) olds betweens) →
+    LogsGrewByFirst log (whole_reads opened.layout) betweens news → IfSome told (λ helds. LogsGrewByFirst log (ref_reads helds) olds news)
+ref_reads_some log None opened olds betweens news opening first reads = tt
+ref_reads_some log (Some helds) opened olds betweens news opening first reads =
+    let By : Result Opened Refusal → Type 0 = λ given. LogsGrewByFirst log (image_reads_of given) betweens news in
+    LogsGrewByFirst-more log (opening_reads helds) (image_reads_of (opening_of helds)) olds betweens news first (subst By (sym opening) reads)
+
+pub ref_reads_all : {D : Type 0} (log : D → Option (List Read)) (told : Option (List (List ℕ))) (opened : Opened) (olds betweens news : List D) →
+    IfSome told (λ helds. opening_of helds ≡ Ok opened) → IfSome told (λ helds. LogsGrew log (opening_reads helds) olds betweens) →
+    LogsGrew log (whole_reads opened.layout) betweens news → IfSome told (λ helds. LogsGrew log (ref_reads helds) olds news)
+ref_reads_all log None opened olds betweens news opening first reads = tt
+ref_reads_all log (Some helds) opened olds betweens news opening first reads =
+    let By : Result Opened Refusal → Type 0 = λ given. LogsGrew log (image_reads_of given) betweens news in
+    LogsGrew-more log (opening_reads helds) (image_reads_of (opening_of helds)) olds betweens news first (subst By (sym opening) reads)
+
+-- reads of opening alone
+pub reads_first : {D : Type 0} (log : D → Option (List Read)) (wish : Wish) (told : Option (List (List ℕ))) (olds news : List D) →
+    IfSome told (λ helds. LogsGrewByFirst log (opening_reads helds) olds news) → IfSome told (λ helds. RunReads log wish helds olds news)
+reads_first log wish told olds news reads = IfSome_then told reads (λ helds first. inl first)
+
+-- all reads of opening, and then of pages that the run asks for
+pub reads_all : {D : Type 0} (log : D → Option (List Read)) (wish : Wish) (told again : Option (List (List ℕ))) (opened : Opened) (olds betweens news : List D) →
+    again ≡ told → IfSome told (λ helds. opening_of helds ≡ Ok opened) →
+    IfSome told (λ helds. LogsGrew log (opening_reads helds) olds betweens) →
+    IfSome again (λ helds. LogsGrewBy (IsAskedBy wish helds (Ok opened)) log betweens news) →
+    IfSome told (λ helds. RunReadsAll log wish helds olds news)
+reads_all log wish None again opened olds betweens news same opening first asked = tt
+reads_all log wish (Some helds) again opened olds betweens news same opening first asked =
+    let Of : Option (List (List ℕ)) → Type 0 = λ told. IfSome told (λ helds. LogsGrewBy (IsAskedBy wish helds (Ok opened)) log betweens news) in
+    let By : Result Opened Refusal → Type 0 = λ given. LogsGrewBy (IsAskedBy wish helds given) log betweens news in
+    let more = subst By (sym opening) (subst Of same asked) in
+    (more.0, more.1, LogsGrew-more log (opening_reads helds) more.0 olds betweens news first more.2)
+
+-- where the run asked for no page yet
+pub reads_none : {D : Type 0} (log : D → Option (List Read)) (wish : Wish) (told : Option (List (List ℕ))) (opened : Opened) (olds news : List D) →
+    IfSome told (λ helds. opening_of helds ≡ Ok opened) → IfSome told (λ helds. LogsGrew log (opening_reads helds) olds news) →
+    IfSome told (λ helds. RunReadsAll log wish helds olds news)
+reads_none {D} log wish told opened olds news opening first =
+    reads_all log wish told told opened olds news news refl opening first (none told) where
+      none : (told : Option (List (List ℕ))) → IfSome told (λ helds. LogsGrewBy (IsAskedBy wish helds (Ok opened)) log news news)
+      none None = tt
+      none (Some helds) = LogsGrewBy-none (IsAskedBy wish helds (Ok opened)) log news
+
+pub reads_of_all : {D : Type 0} (log : D → Option (List Read)) (wish : Wish) (told : Option (List (List ℕ))) (olds news : List D) →
+    IfSome told (λ helds. RunReadsAll log wish helds olds news) → IfSome told (λ helds. RunReads log wish helds olds news)
+reads_of_all log wish told olds news reads = IfSome_then told reads (λ helds all. inr all)
+
+-- the tally of a run that is done
+pub tally_of : (wish : Wish) (told again : Option (List (List ℕ))) (opened : Opened) (tally : Tallied) → again ≡ told →
+    IfSome told (λ helds. opening_of helds ≡ Ok opened) → IfSome again (λ helds. RoseByRun (run_on wish opened helds) tally) →
+    IfSome told (λ helds. RoseByWish wish helds (opening_of helds) tally)
+tally_of wish None again opened tally same opening rose = tt
+tally_of wish (Some helds) again opened tally same opening rose =
+    let Of : Option (List (List ℕ)) → Type 0 = λ told. IfSome told (λ helds. RoseByRun (run_on wish opened helds) tally) in
+    let By : Result Opened Refusal → Type 0 = λ given. RoseByWish wish helds given tally in
+    subst By (sym opening) (subst Of same rose)
+
+-- where the status is 0 nothing was refused
+pub not_refused : (f0 f1 : ℕ) (t0 t1 : Option (List ℕ)) (refusal : Refusal) (text : List ℕ) (status : ℕ) (P : Type 0) →
+    IsWritten (output_between f0 f1 t0 t1) (Some refusal) text status → status ≡ 0 → P
+not_refused f0 f1 t0 t1 refusal text status P written zero = absurd (refused_status (output_between f0 f1 t0 t1) refusal text status written zero)

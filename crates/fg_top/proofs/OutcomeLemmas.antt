@@ -1,0 +1,160 @@
+-- What a job comes to, by what its drives open to and by its source.
+use Rattle.std.proofs.Common.{◌≡◌, ◌≢◌, ◌∙◌, ℕ, ◌<◌, ◌≤◌, Bool, true, false, Option, None, Some, IfSome, Ok, Err, List, [], ◌∷◌, nat_le, refl, sym, ap, subst, arith}
+use Rattle.std.proofs.lemmas.Option.{same_Some}
+use Rattle.fg_base.specs.declared.plain.Value.{Value}
+use Rattle.fg_base.specs.declared.plain.VState.{VState}
+use Rattle.fg_base.specs.declared.refusal.Refusal.{Refusal}
+use Rattle.fg_build.specs.declared.opened.Opened.{Opened}
+use Rattle.fg_build.specs.Answers.{IsOpening, OpeningCounts, ReadCounts}
+use Rattle.fg_build.specs.Opening.{opening_of}
+use Rattle.fg_image.specs.declared.header.Header.{Header}
+use Rattle.fg_model.specs.Run.{Run, Ending, Refused, Settled, Stopped}
+use Rattle.fg_model.specs.declared.graph.Graph.{Graph}
+use Rattle.fg_outside.specs.Drives.{NoneRose}
+use Rattle.fg_outside.proofs.DriveLemmas.{RoseFirst-after}
+use Rattle.fg_report.specs.Refusals.{refusal_line}
+use Rattle.fg_top.specs.declared.jobs.Wish.{Wish}
+use Rattle.fg_top.specs.Ends.{IsCause, IsCutShort, IsOutcome}
+use Rattle.fg_top.specs.Outcome.{Close, Done, IsOwnSource, MayClose, Outcome, Refuses, WishComesTo, at_once, head_of, opened_outcome, outcome_of, rules_of, run_close, run_on, run_outcome, source_of, sourced_outcome}
+use Rattle.fg_top.specs.Running.{IsSourced, RunComesTo, run_in}
+use Rattle.fg_top.proofs.EndLemmas.{behind}
+
+le_holds : (a b : ℕ) → a ≤ b → nat_le a b ≡ true
+le_holds a b h = grind arith
+
+le_fails : (a b : ℕ) → b < a → nat_le a b ≡ false
+le_fails a b h = grind arith
+
+-- drives that open to a refusal
+comes_refused : (wish : Wish) (told : Option (List (List ℕ))) (refusal : Refusal) → MayClose wish (Refuses refusal) →
+    IfSome told (λ helds. opening_of helds ≡ Err refusal) → WishComesTo wish told (at_once (Refuses refusal))
+unfolding outcome_of
+comes_refused wish None refusal may opening = may
+comes_refused wish (Some helds) refusal may opening = sym (ap (opened_outcome wish helds) opening)
+
+-- a source that is no vertex
+refuses_source : (wish : Wish) (opened : Opened) (helds : List (List ℕ)) (own : Option ℕ) (source : ℕ) → own ≡ Some source → opened.header.n ≤ source →
+    sourced_outcome wish opened helds own ≡ at_once (Refuses (Refusal.BadSource source opened.header.n))
+refuses_source wish opened helds own source is above =
+    let no_vertex : nat_le opened.header.n source ≡ true = le_holds opened.header.n source above in
+    rw is (rw no_vertex refl)
+
+own_source : (own : Option ℕ) (source vertices : ℕ) → own ≡ Some source → vertices ≤ source → IsOwnSource own source vertices
+own_source None source vertices is above = cc
+own_source (Some other) source vertices is above = (same_Some other source is, above)
+
+comes_bad_source : (wish : Wish) (told : Option (List (List ℕ))) (opened : Opened) (source : ℕ) →
+    IfSome told (λ helds. opening_of helds ≡ Ok opened) → source_of wish.pick ≡ Some source → opened.header.n ≤ source →
+    WishComesTo wish told (at_once (Refuses (Refusal.BadSource source opened.header.n)))
+unfolding outcome_of
+comes_bad_source wish None opened source opening is above = own_source (source_of wish.pick) source opened.header.n is above
+comes_bad_source wish (Some helds) opened source opening is above =
+    sym (ap (opened_outcome wish helds) opening ∙ refuses_source wish opened helds (source_of wish.pick) source is above)
+
+-- a source that is a vertex
+runs_on : (wish : Wish) (opened : Opened) (helds : List (List ℕ)) (own : Option ℕ) → IfSome own (λ source. source < opened.header.n) →
+    sourced_outcome wish opened helds own ≡ run_outcome wish opened.header (run_on wish opened helds)
+runs_on wish opened helds None below = refl
+runs_on wish opened helds (Some source) below =
+    let vertex : nat_le opened.header.n source ≡ false = le_fails opened.header.n source below in
+    rw vertex refl
+
+-- what the wish comes to on drives that open and have its source
+pub runs_so : (wish : Wish) (told : Option (List (List ℕ))) (opened : Opened) →
+    IfSome told (λ helds. opening_of helds ≡ Ok opened) → IsSourced wish.pick opened.header.n →
+    IfSome told (λ helds. outcome_of wish helds ≡ run_outcome wish opened.header (run_on wish opened helds))
+unfolding outcome_of
+runs_so wish None opened opening sourced = tt
+runs_so wish (Some helds) opened opening sourced = ap (opened_outcome wish helds) opening ∙ runs_on wish opened helds (source_of wish.pick) sourced
+
+-- what a run comes to behind its head is what the wish comes to
+pub comes_behind_head : (wish : Wish) (told : Option (List (List ℕ))) (header : Header) (run_of : List (List ℕ) → Run) →
+    IfSome told (λ helds. outcome_of wish helds ≡ run_outcome wish header (run_of helds)) →
+    (outcome : Outcome) → RunComesTo (rules_of wish.pick) wish told run_of outcome → WishComesTo wish told (behind (head_of wish.pick header ∷ []) outcome)
+comes_behind_head wish None header run_of so outcome comes = comes
+comes_behind_head wish (Some helds) header run_of so outcome comes = ap (behind (head_of wish.pick header ∷ [])) comes ∙ sym so
+
+-- some outcome that the wish comes to
+some_outcome : Wish → Option (List (List ℕ)) → Outcome
+some_outcome wish None = at_once (Done [])
+some_outcome wish (Some helds) = outcome_of wish helds
+
+-- work that is cut short before a line was written
+pub cut_at_once : (wish : Wish) (told : Option (List (List ℕ))) (last : List ℕ) → IsCutShort (WishComesTo wish told) last last
+unfolding some_outcome
+cut_at_once wish told last = record { outcome = some_outcome wish told; is_one = comes told; count = 0; text_is = refl }
+  where
+    comes : (told : Option (List (List ℕ))) → WishComesTo wish told (some_outcome wish told)
+    comes None = tt
+    comes (Some helds) = refl
+
+-- an outcome before which no line is written
+closed : (comes : Outcome → Type 0) (close : Close) (last : List ℕ) → comes (at_once close) → IsOutcome comes close last last
+closed comes close last is = record { outcome = at_once close; is_one = is; closes = refl; text_is = refl }
+
+-- a refusal for what the drives hold
+content : {D : Type 0} (faults : D → ℕ) (olds news : List D) (wish : Wish) (told : Option (List (List ℕ))) (refusal : Refusal) →
+    NoneRose faults olds news → MayClose wish (Refuses refusal) → IfSome told (λ helds. opening_of helds ≡ Err refusal) →
+    NoneRose faults olds news × IsOutcome (WishComesTo wish told) (Refuses refusal) (refusal_line refusal) (refusal_line refusal)
+content faults olds news wish told refusal kept may opening =
+    (kept, closed (WishComesTo wish told) (Refuses refusal) (refusal_line refusal) (comes_refused wish told refusal may opening))
+
+-- why drives that weren't opened are refused
+pub cause_of_opening : {D : Type 0} (faults : D → ℕ) (olds news : List D) (wish : Wish) (told : Option (List (List ℕ))) (refusal : Refusal) →
+    OpeningCounts faults olds news (Err refusal) → IfSome told (λ helds. IsOpening (opening_of helds) (Err refusal)) →
+    IsCause faults olds news (WishComesTo wish told) (Some refusal) (refusal_line refusal)
+cause_of_opening faults olds news wish told Refusal.Memory counts opening = cut_at_once wish told (refusal_line Refusal.Memory)
+cause_of_opening faults olds news wish told (Refusal.DriveFault drive) counts opening = (counts, cut_at_once wish told (refusal_line (Refusal.DriveFault drive)))
+cause_of_opening faults olds news wish told (Refusal.NoLabel drive) counts opening = content faults olds news wish told (Refusal.NoLabel drive) counts tt opening
+cause_of_opening faults olds news wish told (Refusal.WrongDrive drive found) counts opening = content faults olds news wish told (Refusal.WrongDrive drive found) counts tt opening
+cause_of_opening faults olds news wish told (Refusal.LabelDiffers drive) counts opening = content faults olds news wish told (Refusal.LabelDiffers drive) counts tt opening
+cause_of_opening faults olds news wish told (Refusal.ShortDrive drive have need) counts opening = content faults olds news wish told (Refusal.ShortDrive drive have need) counts tt opening
+cause_of_opening faults olds news wish told Refusal.BadHeader counts opening = content faults olds news wish told Refusal.BadHeader counts tt opening
+cause_of_opening faults olds news wish told (Refusal.BadVersion found) counts opening = content faults olds news wish told (Refusal.BadVersion found) counts tt opening
+cause_of_opening faults olds news wish told Refusal.BadSections counts opening = content faults olds news wish told Refusal.BadSections counts tt opening
+cause_of_opening faults olds news wish told (Refusal.BadIndex dir place) counts opening = content faults olds news wish told (Refusal.BadIndex dir place) counts tt opening
+cause_of_opening faults olds news wish told refusal counts opening = absurd counts
+
+-- opening never answers for the output
+pub opening_not_output : {D : Type 0} (faults : D → ℕ) (olds news : List D) (refusal : Refusal) →
+    OpeningCounts faults olds news (Err refusal) → refusal ≢ Refusal.OutputFault
+opening_not_output faults olds news refusal counts is =
+    let P : Refusal → Type 0 = λ refusal. OpeningCounts faults olds news (Err refusal) in subst P is counts
+
+-- why a source that is no vertex is refused
+pub cause_of_source : {D : Type 0} (faults : D → ℕ) (olds news : List D) (wish : Wish) (told : Option (List (List ℕ))) (opened : Opened) (source : ℕ) →
+    NoneRose faults olds news → IfSome told (λ helds. opening_of helds ≡ Ok opened) → source_of wish.pick ≡ Some source → opened.header.n ≤ source →
+    IsCause faults olds news (WishComesTo wish told) (Some (Refusal.BadSource source opened.header.n)) (refusal_line (Refusal.BadSource source opened.header.n))
+cause_of_source faults olds news wish told opened source kept opening is above =
+    (kept, closed (WishComesTo wish told) (Refuses (Refusal.BadSource source opened.header.n)) _ (comes_bad_source wish told opened source opening is above))
+
+-- why drives that weren't read whole are refused
+pub cause_of_reading : {D : Type 0} (faults : D → ℕ) (olds betweens news : List D) (wish : Wish) (told : Option (List (List ℕ))) (refusal : Refusal) →
+    NoneRose faults olds betweens → ReadCounts {D = D} {A = Graph} faults betweens news (Err refusal) →
+    IsCause faults olds news (WishComesTo wish told) (Some refusal) (refusal_line refusal)
+cause_of_reading faults olds betweens news wish told Refusal.Memory kept counts = cut_at_once wish told (refusal_line Refusal.Memory)
+cause_of_reading faults olds betweens news wish told (Refusal.DriveFault drive) kept counts =
+    (RoseFirst-after faults drive olds betweens news kept counts, cut_at_once wish told (refusal_line (Refusal.DriveFault drive)))
+cause_of_reading faults olds betweens news wish told refusal kept counts = absurd counts
+
+-- reading never answers for the output
+pub reading_not_output : {D : Type 0} (faults : D → ℕ) (olds news : List D) (refusal : Refusal) →
+    ReadCounts {D = D} {A = Graph} faults olds news (Err refusal) → refusal ≢ Refusal.OutputFault
+reading_not_output {D} faults olds news refusal counts is =
+    let P : Refusal → Type 0 = λ refusal. ReadCounts {D = D} {A = Graph} faults olds news (Err refusal) in subst P is counts
+
+-- a run closes as it may where nothing is told
+may_close : (wish : Wish) (quiet : Bool) (show : VState → Value) (ending : Ending) (iterations : ℕ) (states : List VState) →
+    MayClose wish (run_close quiet show ending iterations states)
+may_close wish quiet show Settled iterations states = tt
+may_close wish quiet show Stopped iterations states = tt
+may_close wish quiet show (Refused begun bad) iterations states = tt
+
+-- a run over a graph that is known
+pub comes_in_memory : (wish : Wish) (told : Option (List (List ℕ))) (graph : Graph) (outcome : Outcome) →
+    RunComesTo (rules_of wish.pick) wish (Some graph) (run_in wish) outcome → RunComesTo (rules_of wish.pick) wish told (λ helds. run_in wish graph) outcome
+comes_in_memory wish None graph outcome is =
+    let ran = run_in wish graph in
+    let P : Close → Type 0 = λ close. MayClose wish close in
+    subst P (sym (ap (λ (one : Outcome). one.close) is)) (may_close wish wish.quiet (rules_of wish.pick).show ran.ending ran.iterations ran.states)
+comes_in_memory wish (Some helds) graph outcome is = is

@@ -1,0 +1,287 @@
+-- How a run ends behind its head, by what it answered and what was shown of it.
+use Rattle.std.proofs.Common.{◌≡◌, ◌∙◌, ℕ, ◌+◌, ◌≤◌, ◌^◌, arith, Bool, Option, None, Some, IfSome, Result, Ok, Err, IfOk, IfErr, OnOk, List, [], ◌∷◌, ◌++◌, length, map, take, drop, refl, sym, ap, subst}
+use Rattle.std.proofs.lemmas.Grind.{flat_map-append}
+use Rattle.std.proofs.lemmas.List.{append-nil, take-map}
+use Rattle.std.proofs.lemmas.Option.{IfSome_then}
+use Rattle.std.proofs.Math.Seq.{take-add, take-length}
+use Rattle.std.specs.List.{concat}
+use Rattle.fg_base.specs.Faults.{Rose}
+use Rattle.fg_base.specs.Told.{grown, GrewByFirst}
+use Rattle.fg_base.specs.declared.plain.BadEdge.{BadEdge}
+use Rattle.fg_base.specs.declared.plain.Value.{Value}
+use Rattle.fg_base.specs.declared.plain.VState.{VState}
+use Rattle.fg_base.specs.declared.refusal.Refusal.TheVariants as Refusal
+use Rattle.fg_base.proofs.GrowthLemmas.{grew_on}
+use Rattle.fg_base.proofs.ToldLemmas.{grown-grown}
+use Rattle.fg_model.specs.declared.graph.Graph.{Graph}
+use Rattle.fg_model.specs.declared.run.End.{End}
+use Rattle.fg_model.specs.declared.run.RunFault.{RunFault}
+use Rattle.fg_model.specs.Engine.{MatchRunFault}
+use Rattle.fg_model.specs.Iteration.{AreStates}
+use Rattle.fg_model.specs.Program.{Rules}
+use Rattle.fg_model.specs.Run.{Ending, Finished, Refused, Run, Settled, Stopped, answer_at, answer_of}
+use Rattle.fg_model.specs.Watch.{Grew, ShownAll, ShownPart, ShownSome, told_of}
+use Rattle.fg_outside.specs.Drives.{NoneRose, RoseFirst}
+use Rattle.fg_report.specs.Refusals.{refusal_line}
+use Rattle.fg_report.specs.ReportWatch.{iteration_text}
+use Rattle.fg_top.specs.declared.jobs.Wish.{Wish}
+use Rattle.fg_top.specs.Ends.{Ends, output_between}
+use Rattle.fg_top.specs.Outcome.{Close, Done, MayClose, Outcome, Refuses, run_close, text_of}
+use Rattle.fg_top.specs.Running.{IsClosed, RunComesTo, behind_head, last_text}
+use Rattle.fg_top.proofs.EndLemmas.{ends_given_up, refused_status, written_behind}
+
+-- what is written of all these iterations is what a watch that reports tells of them
+concat_told : (each : Bool) (show : VState → Value) (finished : List Finished) →
+    concat (map (text_of each show) finished) ≡ told_of (iteration_text each show) finished
+unfolding told_of
+concat_told each show [] = refl
+concat_told each show (iteration ∷ finished) = ap (λ rest. text_of each show iteration ++ rest) (concat_told each show finished)
+
+concat_taken : (each : Bool) (show : VState → Value) (finished : List Finished) (k : ℕ) →
+    concat (take k (map (text_of each show) finished)) ≡ told_of (iteration_text each show) (take k finished)
+concat_taken each show finished k = ap concat (take-map (text_of each show) k finished) ∙ concat_told each show (take k finished)
+
+told_next : (each : Bool) (show : VState → Value) (finished : List Finished) (k : ℕ) →
+    told_of (iteration_text each show) (take (k + 1) finished)
+    ≡ told_of (iteration_text each show) (take k finished) ++ told_of (iteration_text each show) (take 1 (drop k finished))
+unfolding told_of
+told_next each show finished k =
+    ap (told_of (iteration_text each show)) (take-add k 1 finished) ∙ flat_map-append (text_of each show) (take k finished) (take 1 (drop k finished))
+
+-- the end in an answer
+end_in : Result End RunFault → End → End
+end_in (Ok end) other = end
+end_in (Err fault) other = other
+
+closes_done : (quiet : Bool) (show : VState → Value) (ending : Ending) (iterations phase : ℕ) (states : List VState) (end : End) →
+    answer_at ending iterations phase states ≡ Ok end → run_close quiet show ending iterations states ≡ Done (last_text quiet show end)
+unfolding end_in
+closes_done quiet show Settled iterations phase states end answer = ap (λ given. Done (last_text quiet show (end_in given end))) answer
+closes_done quiet show Stopped iterations phase states end answer = ap (λ given. Done (last_text quiet show (end_in given end))) answer
+closes_done quiet show (Refused begun bad) iterations phase states end answer = cc
+
+closes_bad : (quiet : Bool) (show : VState → Value) (ending : Ending) (iterations phase : ℕ) (states : List VState) (bad : BadEdge) →
+    answer_at ending iterations phase states ≡ Err (RunFault.BadEdge bad) → run_close quiet show ending iterations states ≡ Refuses (Refusal.BadEdge bad)
+closes_bad quiet show Settled iterations phase states bad answer = cc
+closes_bad quiet show Stopped iterations phase states bad answer = cc
+closes_bad quiet show (Refused begun found) iterations phase states bad answer = cc
+
+-- how the run closes that is wished for
+abbrev close_of : Rules → Wish → Run → Close
+close_of rules wish run = (behind_head rules wish run).close
+
+done_of : (rules : Rules) (wish : Wish) (run : Run) (end : End) → answer_of run ≡ Ok end →
+    close_of rules wish run ≡ Done (last_text wish.quiet rules.show end)
+unfolding answer_of
+done_of rules wish run end answer = closes_done wish.quiet rules.show run.ending run.iterations run.phase run.states end answer
+
+bad_of : (rules : Rules) (wish : Wish) (run : Run) (bad : BadEdge) → answer_of run ≡ Err (RunFault.BadEdge bad) → close_of rules wish run ≡ Refuses (Refusal.BadEdge bad)
+unfolding answer_of
+bad_of rules wish run bad answer = closes_bad wish.quiet rules.show run.ending run.iterations run.phase run.states bad answer
+
+-- an outcome of the run that closes so, all of whose lines were written
+record Whole {A : Type 0} (rules : Rules) (wish : Wish) (told : Option A) (run_of : A → Run) (close : Close) (t0 t1 : Option (List ℕ)) : Type 0 where
+  outcome : Outcome
+  is_one : RunComesTo rules wish told run_of outcome
+  closes : outcome.close ≡ close
+  wrote : t1 ≡ grown t0 (concat outcome.lines)
+
+-- an outcome of the run, some first lines of which were written
+record Cut {A : Type 0} (rules : Rules) (wish : Wish) (told : Option A) (run_of : A → Run) (t0 t1 : Option (List ℕ)) : Type 0 where
+  outcome : Outcome
+  is_one : RunComesTo rules wish told run_of outcome
+  count : ℕ
+  wrote : t1 ≡ grown t0 (concat (take count outcome.lines))
+
+-- an outcome of the run, a first part of some first lines of which was written
+record Broken {A : Type 0} (rules : Rules) (wish : Wish) (told : Option A) (run_of : A → Run) (t0 t1 : Option (List ℕ)) : Type 0 where
+  outcome : Outcome
+  is_one : RunComesTo rules wish told run_of outcome
+  count : ℕ
+  wrote : GrewByFirst (concat (take count outcome.lines)) t0 t1
+
+-- where nothing is told, what was written is the only line
+only_line : Close → List ℕ → Outcome
+only_line close line = record { lines = line ∷ []; close = close }
+
+whole_run : {A : Type 0} (rules : Rules) (wish : Wish) (told : Option A) (run_of : A → Run) (close : Close) (t0 t1 : Option (List ℕ)) →
+    Grew t0 t1 → MayClose wish close → IfSome told (λ one. close_of rules wish (run_of one) ≡ close) →
+    IfSome told (λ one. ShownAll (iteration_text wish.each rules.show) (run_of one).finished t0 t1) →
+    Whole rules wish told run_of close t0 t1
+unfolding only_line
+whole_run rules wish None run_of close t0 t1 (more, grew) may closes shown =
+    record { outcome = only_line close more; is_one = may; closes = refl; wrote = grew ∙ ap (grown t0) (sym (append-nil more)) }
+whole_run rules wish (Some one) run_of close t0 t1 grew may closes shown = record {
+  outcome = behind_head rules wish (run_of one);
+  is_one = refl;
+  closes = closes;
+  wrote = shown ∙ ap (grown t0) (sym (concat_told wish.each rules.show (run_of one).finished));
+}
+
+cut_run : {A : Type 0} (rules : Rules) (wish : Wish) (told : Option A) (run_of : A → Run) (t0 t1 : Option (List ℕ)) → Grew t0 t1 →
+    IfSome told (λ one. ShownSome (iteration_text wish.each rules.show) (run_of one).finished t0 t1) → Cut rules wish told run_of t0 t1
+unfolding only_line
+cut_run rules wish None run_of t0 t1 (more, grew) shown =
+    record { outcome = only_line (Done []) more; is_one = tt; count = 1; wrote = grew ∙ ap (grown t0) (sym (append-nil more)) }
+cut_run rules wish (Some one) run_of t0 t1 grew (k, shown) = record {
+  outcome = behind_head rules wish (run_of one);
+  is_one = refl;
+  count = k;
+  wrote = shown ∙ ap (grown t0) (sym (concat_taken wish.each rules.show (run_of one).finished k));
+}
+
+broken_text : (each : Bool) (show : VState → Value) (finished : List Finished) (t0 t1 : Option (List ℕ)) (k part : ℕ) →
+    t1 ≡ grown t0 (told_of (iteration_text each show) (take k finished) ++ take part (told_of (iteration_text each show) (take 1 (drop k finished)))) →
+    GrewByFirst (concat (take (k + 1) (map (text_of each show) finished))) t0 t1
+broken_text each show finished t0 t1 k part grew =
+    let told = told_of (iteration_text each show) in
+    let first = told (take k finished) in
+    let next = told (take 1 (drop k finished)) in
+    let Of : List ℕ → Type 0 = λ text. GrewByFirst text t0 t1 in
+    subst Of (sym (concat_taken each show finished (k + 1) ∙ told_next each show finished k))
+    (grew_on first next t0 t1 (part, grew ∙ sym (grown-grown t0 first (take part next))))
+
+broken_run : {A : Type 0} (rules : Rules) (wish : Wish) (told : Option A) (run_of : A → Run) (t0 t1 : Option (List ℕ)) → Grew t0 t1 →
+    IfSome told (λ one. ShownPart (iteration_text wish.each rules.show) (run_of one).finished t0 t1) → Broken rules wish told run_of t0 t1
+unfolding only_line
+broken_run rules wish None run_of t0 t1 (more, grew) shown = record {
+  outcome = only_line (Done []) more;
+  is_one = tt;
+  count = 1;
+  wrote = (length more, grew ∙ ap (grown t0) (all_of more));
+} where
+  all_of : (more : List ℕ) → more ≡ take (length more) (more ++ [])
+  all_of more = sym (ap (take (length more)) (append-nil more) ∙ take-length more)
+broken_run rules wish (Some one) run_of t0 t1 grew (k, part, within, shown) = record {
+  outcome = behind_head rules wish (run_of one);
+  is_one = refl;
+  count = k + 1;
+  wrote = broken_text wish.each rules.show (run_of one).finished t0 t1 k part shown;
+}
+
+-- why the run answered so, by its fault
+abbrev pub RunCause : {D : Type 0} → (D → ℕ) → List D → List D → ℕ → ℕ → RunFault → Type 0
+RunCause faults olds news f0 f1 fault = MatchRunFault fault
+    (f1 ≡ f0)
+    (λ drive. RoseFirst faults drive olds news × (f1 ≡ f0))
+    (λ bad. NoneRose faults olds news × (f1 ≡ f0))
+    (NoneRose faults olds news × Rose f0 f1)
+
+-- whether the run ends so
+abbrev pub RunBad : RunFault → Run → Type 0
+RunBad fault run = MatchRunFault fault (Unit {0}) (λ drive. Unit {0}) (λ bad. answer_of run ≡ Err (RunFault.BadEdge bad)) (Unit {0})
+
+-- what was shown of it
+abbrev pub RunShown : Rules → Wish → RunFault → Option (List ℕ) → Option (List ℕ) → Run → Type 0
+RunShown rules wish fault t0 t1 run =
+    let told = iteration_text wish.each rules.show in
+    MatchRunFault fault
+    (ShownSome told run.finished t0 t1)
+    (λ drive. ShownSome told run.finished t0 t1)
+    (λ bad. ShownAll told run.finished t0 t1)
+    (ShownPart told run.finished t0 t1)
+
+pub ends_of_run : {D A : Type 0} (faults : D → ℕ) (olds news : List D) (rules : Rules) (wish : Wish) (told : Option A) (run_of : A → Run)
+    (answer : Result End RunFault) (f0 f1 f2 : ℕ) (t0 t1 t2 : Option (List ℕ)) (status : ℕ) →
+    Grew t0 t1 →
+    IfOk answer (λ end. IfSome told (λ one. answer_of (run_of one) ≡ Ok end)) →
+    OnOk answer (NoneRose faults olds news) →
+    OnOk answer (f1 ≡ f0) →
+    OnOk answer (IfSome told (λ one. ShownAll (iteration_text wish.each rules.show) (run_of one).finished t0 t1)) →
+    IfErr answer (λ fault. RunCause faults olds news f0 f1 fault) →
+    IfErr answer (λ fault. IfSome told (λ one. RunBad fault (run_of one))) →
+    IfErr answer (λ fault. IfSome told (λ one. RunShown rules wish fault t0 t1 (run_of one))) →
+    IsClosed wish.quiet rules.show (output_between f1 f2 t1 t2) answer status →
+    Ends faults olds news (RunComesTo rules wish told run_of) (output_between f0 f2 t0 t2) status
+ends_of_run faults olds news rules wish told run_of (Ok end) f0 f1 f2 t0 t1 t2 status grew ok kept same shown counts bad some closed =
+    let last = last_text wish.quiet rules.show end in
+    let whole = whole_run rules wish told run_of (Done last) t0 t1 grew tt (IfSome_then told ok (λ one answer. done_of rules wish (run_of one) end answer)) shown in
+    record {
+      end = None;
+      text = concat whole.outcome.lines ++ last;
+      cause = (kept, record { last = last; is_outcome = record { outcome = whole.outcome; is_one = whole.is_one; closes = whole.closes; text_is = refl } });
+      written = written_behind f0 f1 f2 t0 t1 t2 None (concat whole.outcome.lines) last status same whole.wrote closed;
+    }
+ends_of_run faults olds news rules wish told run_of (Err RunFault.Memory) f0 f1 f2 t0 t1 t2 status grew ok kept same shown counts bad some closed =
+    let cut = cut_run rules wish told run_of t0 t1 grew some in
+    let lines = concat (take cut.count cut.outcome.lines) in
+    let line = refusal_line Refusal.Memory in
+    record {
+      end = Some Refusal.Memory;
+      text = lines ++ line;
+      cause = record { outcome = cut.outcome; is_one = cut.is_one; count = cut.count; text_is = refl };
+      written = written_behind f0 f1 f2 t0 t1 t2 (Some Refusal.Memory) lines line status counts cut.wrote closed;
+    }
+ends_of_run faults olds news rules wish told run_of (Err (RunFault.Drive drive)) f0 f1 f2 t0 t1 t2 status grew ok kept same shown counts bad some closed =
+    let cut = cut_run rules wish told run_of t0 t1 grew some in
+    let lines = concat (take cut.count cut.outcome.lines) in
+    let line = refusal_line (Refusal.DriveFault drive) in
+    record {
+      end = Some (Refusal.DriveFault drive);
+      text = lines ++ line;
+      cause = (counts.0, record { outcome = cut.outcome; is_one = cut.is_one; count = cut.count; text_is = refl });
+      written = written_behind f0 f1 f2 t0 t1 t2 (Some (Refusal.DriveFault drive)) lines line status counts.1 cut.wrote closed;
+    }
+ends_of_run faults olds news rules wish told run_of (Err (RunFault.BadEdge edge)) f0 f1 f2 t0 t1 t2 status grew ok kept same shown counts bad some closed =
+    let whole = whole_run rules wish told run_of (Refuses (Refusal.BadEdge edge)) t0 t1 grew tt (IfSome_then told bad (λ one answer. bad_of rules wish (run_of one) edge answer)) some in
+    let line = refusal_line (Refusal.BadEdge edge) in
+    record {
+      end = Some (Refusal.BadEdge edge);
+      text = concat whole.outcome.lines ++ line;
+      cause = (counts.0, record { outcome = whole.outcome; is_one = whole.is_one; closes = whole.closes; text_is = refl });
+      written = written_behind f0 f1 f2 t0 t1 t2 (Some (Refusal.BadEdge edge)) (concat whole.outcome.lines) line status counts.1 whole.wrote closed;
+    }
+ends_of_run faults olds news rules wish told run_of (Err RunFault.Watch) f0 f1 f2 t0 t1 t2 status grew ok kept same shown counts bad some closed =
+    let broken = broken_run rules wish told run_of t0 t1 grew some in
+    let From : ℕ → Type 0 = λ count. Rose f0 count in
+    let To : Option (List ℕ) → Type 0 = λ text. GrewByFirst (concat (take broken.count broken.outcome.lines)) t0 text in
+    ends_given_up faults olds news (RunComesTo rules wish told run_of) broken.outcome broken.count f0 f2 t0 t2 status broken.is_one
+    (subst From (sym closed.faults) counts.1) (subst To (sym closed.text) broken.wrote) closed.failed
+
+-- where the status is 0 the run has an end
+pub run_is_ok : (quiet : Bool) (show : VState → Value) (f1 f2 : ℕ) (t1 t2 : Option (List ℕ)) (answer : Result End RunFault) (status : ℕ) (P : Type 0) →
+    IsClosed quiet show (output_between f1 f2 t1 t2) answer status → status ≡ 0 → OnOk answer P → P
+run_is_ok quiet show f1 f2 t1 t2 (Ok end) status P closed zero known = known
+run_is_ok quiet show f1 f2 t1 t2 (Err RunFault.Memory) status P closed zero known =
+    absurd (refused_status (output_between f1 f2 t1 t2) Refusal.Memory _ status closed zero)
+run_is_ok quiet show f1 f2 t1 t2 (Err (RunFault.Drive drive)) status P closed zero known =
+    absurd (refused_status (output_between f1 f2 t1 t2) (Refusal.DriveFault drive) _ status closed zero)
+run_is_ok quiet show f1 f2 t1 t2 (Err (RunFault.BadEdge bad)) status P closed zero known =
+    absurd (refused_status (output_between f1 f2 t1 t2) (Refusal.BadEdge bad) _ status closed zero)
+run_is_ok quiet show f1 f2 t1 t2 (Err RunFault.Watch) status P closed zero known =
+    let four : ◌≡◌ {A = ℕ} 4 0 = sym closed.failed ∙ zero in cc
+
+-- how a run in memory answers, as a run that has no drives
+pub plain_cause : {A : Type 0} (answer : Result A RunFault) (f0 f1 : ℕ) →
+    IfErr answer (λ fault. MatchRunFault fault (f1 ≡ f0) (λ drive. ⊥) (λ bad. f1 ≡ f0) (Rose f0 f1)) →
+    IfErr answer (λ fault. RunCause {D = ℕ} (λ drive. drive) [] [] f0 f1 fault)
+plain_cause (Ok end) f0 f1 counts = tt
+plain_cause (Err RunFault.Memory) f0 f1 counts = counts
+plain_cause (Err (RunFault.Drive drive)) f0 f1 counts = absurd counts
+plain_cause (Err (RunFault.BadEdge bad)) f0 f1 counts = (tt, counts)
+plain_cause (Err RunFault.Watch) f0 f1 counts = (tt, counts)
+
+pub plain_bad : {A : Type 0} (answer : Result A RunFault) (run : Run) →
+    IfErr answer (λ fault. MatchRunFault fault (Unit {0}) (λ drive. ⊥) (λ bad. answer_of run ≡ Err (RunFault.BadEdge bad)) (Unit {0})) →
+    IfErr answer (λ fault. RunBad fault run)
+plain_bad (Ok end) run bad = tt
+plain_bad (Err RunFault.Memory) run bad = tt
+plain_bad (Err (RunFault.Drive drive)) run bad = tt
+plain_bad (Err (RunFault.BadEdge edge)) run bad = bad
+plain_bad (Err RunFault.Watch) run bad = tt
+
+pub plain_shown : {A : Type 0} (answer : Result A RunFault) (rules : Rules) (wish : Wish) (t0 t1 : Option (List ℕ)) (run : Run) →
+    IfErr answer (λ fault. let told = iteration_text wish.each rules.show in
+    MatchRunFault fault (ShownSome told run.finished t0 t1) (λ drive. ⊥) (λ bad. ShownAll told run.finished t0 t1) (ShownPart told run.finished t0 t1)) →
+    IfErr answer (λ fault. RunShown rules wish fault t0 t1 run)
+plain_shown (Ok end) rules wish t0 t1 run shown = tt
+plain_shown (Err RunFault.Memory) rules wish t0 t1 run shown = shown
+plain_shown (Err (RunFault.Drive drive)) rules wish t0 t1 run shown = absurd shown
+plain_shown (Err (RunFault.BadEdge bad)) rules wish t0 t1 run shown = shown
+plain_shown (Err RunFault.Watch) rules wish t0 t1 run shown = shown
+
+-- there are few states
+pub few_states : (graph : Graph) (answer : Result End RunFault) → graph.n ≤ 2 ^ 24 →
+    IfOk answer (λ end. AreStates graph.n end.states) → IfOk answer (λ end. length end.states ≤ 2 ^ 32)
+few_states graph (Ok end) few states = omega (arith, states.state_count, few)
+few_states graph (Err fault) few states = tt

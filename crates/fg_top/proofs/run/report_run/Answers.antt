@@ -1,0 +1,35 @@
+use Rattle.std.proofs.Common.{IfSome, subst, rules}
+use Rattle.fg_model.specs.Program.{Rules}
+use Rattle.fg_model.specs.Run.{begun_of, run}
+use Rattle.fg_build.specs.Opening.{graph_on}
+use Rattle.fg_outside.specs.Drives.{LogsGrewBy, all_told}
+use Rattle.fg_top.specs.Asked.{IsAsked}
+use Rattle.fg_top.specs.Ends.{Ends, output_between}
+use Rattle.fg_top.specs.Outcome.{rules_of}
+use Rattle.fg_top.specs.Running.{RunComesTo}
+use Rattle.fg_top.proofs.RunEnds.{ends_of_run}
+use Rattle.fg_top.proofs.run.report_run.Goals as goal
+
+pub returns-clause-reads : goal.returns-clause-reads
+returns-clause-reads g c =
+    let Of : Rules → Type 0 = λ rules. IfSome (all_told g.D.Drive.held c.args.drives.items) (λ helds. LogsGrewBy (IsAsked c.args.opened.layout c.args.opened.index rules (begun_of (run rules (graph_on c.args.opened helds) c.args.wish.max))) g.D.Drive.log c.args.drives.items c.run_paged-back.result.drives.items) in
+    subst Of c.requires.picked c.run_paged-back.ensures.reads
+
+pub returns-clause-ends : goal.returns-clause-ends
+returns-clause-ends g c =
+    let paged = c.run_paged-back in
+    let wish = c.args.wish in
+    let told = all_told g.D.Drive.held c.args.drives.items in
+    let P = g.P.Program.rules c.args.program.now in
+    let f0 = g.K.Sink.faults c.args.out.now in
+    let t0 = g.K.Sink.written c.args.out.now in
+    let f1 = g.K.Sink.faults paged.new.watch.out.now in
+    let t1 = g.K.Sink.written paged.new.watch.out.now in
+    let last = c.close_run-status.new.out in
+    let At : g.row.K.Denot → Rules → Type 0 = λ sink rules. Ends g.D.Drive.faults c.args.drives.items paged.result.drives.items
+    (RunComesTo rules wish told (λ helds. run rules (graph_on c.args.opened helds) wish.max))
+    (output_between f0 (g.K.Sink.faults sink) t0 (g.K.Sink.written sink)) c.close_run-status.result in
+    let ends : At last P = ends_of_run g.D.Drive.faults c.args.drives.items paged.result.drives.items P wish told (λ helds. run P (graph_on c.args.opened helds) wish.max)
+    paged.result.answer f0 f1 (g.K.Sink.faults last) t0 t1 (g.K.Sink.written last) c.close_run-status.result
+    paged.ensures.grew paged.ensures.ok paged.ensures.ok_kept paged.ensures.ok_watch paged.ensures.ok_shown paged.ensures.faults paged.ensures.bad_edge paged.ensures.shown c.close_run-status.ensures in
+    subst (λ (sink : g.row.K.Denot). At sink (rules_of wish.pick)) (search rules) (subst (At last) c.requires.picked ends)

@@ -1,0 +1,86 @@
+use Rattle.std.proofs.Common.{◌≡◌, IfSome, List, subst, rules}
+use Rattle.fg_build.specs.OpeningReads.{opening_reads}
+use Rattle.fg_outside.specs.Drives.{EachSame, LogsGrew, NoneRose, RoomyKept, all_told}
+use Rattle.fg_outside.proofs.DriveLemmas.{EachSame-more, RoomyKept-more, all_told-same}
+use Rattle.fg_top.specs.Outcome.{run_on}
+use Rattle.fg_top.specs.Tallies.{tallied}
+use Rattle.fg_top.proofs.JobLemmas.{ends_after_head, ends_at_head, reads_all, reads_none, reads_of_all, tally_of}
+use Rattle.fg_top.proofs.OutcomeLemmas.{runs_so}
+use Rattle.fg_top.proofs.run.run_job.Goals as goal
+
+pub returns-in-Err-write_head_of-clause-ends : goal.returns-in-Err-write_head_of-clause-ends
+returns-in-Err-write_head_of-clause-ends g c =
+    ends_at_head g.D.Drive.faults c.args.drives.now.items c.open_sourced.new.drives.items c.args.wish (all_told g.D.Drive.held c.args.drives.now.items) c.in-Ok.opened.header
+    (run_on c.args.wish c.in-Ok.opened) (g.K.Sink.faults c.args.out.now) (g.K.Sink.faults c.write_head_of.new.out) (g.K.Sink.written c.args.out.now) (g.K.Sink.written c.write_head_of.new.out)
+    c.status.result (runs_so c.args.wish (all_told g.D.Drive.held c.args.drives.now.items) c.in-Ok.opened c.in-Ok.ensures.opening c.in-Ok.ensures.sourced) c.in-Err-write_head_of.ensures.counted.failed c.in-Err-write_head_of.ensures.part c.status.ensures
+
+pub returns-clause-ends : goal.returns-clause-ends
+returns-clause-ends g c =
+    let olds = c.args.drives.now.items in
+    let taken = c.replace-taken.result.items in
+    let moved : c.open_sourced.new.drives.items ≡ taken = search rules in
+    let Kept : List g.row.D.Denot → Type 0 = λ list. NoneRose g.D.Drive.faults olds list in
+    let Held : List g.row.D.Denot → Type 0 = λ list. EachSame g.D.Drive.held olds list in
+    ends_after_head g.D.Drive.faults olds taken c.run_picked-back.result.drives.items c.args.wish (all_told g.D.Drive.held olds) (all_told g.D.Drive.held taken) c.in-Ok.opened.header
+    (run_on c.args.wish c.in-Ok.opened) (g.K.Sink.faults c.args.out.now) (g.K.Sink.faults c.write_head_of.new.out) (g.K.Sink.faults c.run_picked-back.new.out)
+    (g.K.Sink.written c.args.out.now) (g.K.Sink.written c.write_head_of.new.out) (g.K.Sink.written c.run_picked-back.new.out) c.run_picked-back.result.status
+    (all_told-same g.D.Drive.held olds taken (subst Held moved c.in-Ok.ensures.held))
+    (runs_so c.args.wish (all_told g.D.Drive.held olds) c.in-Ok.opened c.in-Ok.ensures.opening c.in-Ok.ensures.sourced) (subst Kept moved c.in-Ok.ensures.kept)
+    c.in_default.ensures.counted.kept c.in_default.ensures.whole c.run_picked-back.ensures.ends
+
+pub returns-clause-drives : goal.returns-clause-drives
+returns-clause-drives g c =
+    let olds = c.args.drives.now.items in
+    let moved : c.open_sourced.new.drives.items ≡ c.replace-taken.result.items = search rules in
+    let Held : List g.row.D.Denot → Type 0 = λ list. EachSame g.D.Drive.held olds list in
+    EachSame-more g.D.Drive.held olds c.replace-taken.result.items c.run_picked-back.result.drives.items (subst Held moved c.in-Ok.ensures.held) c.run_picked-back.ensures.held
+
+pub returns-clause-sure : goal.returns-clause-sure
+returns-clause-sure g c =
+    let olds = c.args.drives.now.items in
+    let moved : c.open_sourced.new.drives.items ≡ c.replace-taken.result.items = search rules in
+    let Room : List g.row.D.Denot → Type 0 = λ list. EachSame g.D.Drive.room olds list in
+    let Sure : List g.row.D.Denot → Type 0 = λ list. RoomyKept g.D.Drive.room g.D.Drive.faults olds list in
+    RoomyKept-more g.D.Drive.room g.D.Drive.faults olds c.replace-taken.result.items c.run_picked-back.result.drives.items (subst Room moved c.in-Ok.ensures.room)
+    (subst Sure moved c.in-Ok.ensures.sure) c.run_picked-back.ensures.sure
+
+pub returns-in-Err-write_head_of-clause-reads : goal.returns-in-Err-write_head_of-clause-reads
+returns-in-Err-write_head_of-clause-reads g c =
+    let told = all_told g.D.Drive.held c.args.drives.now.items in
+    reads_of_all g.D.Drive.log c.args.wish told c.args.drives.now.items c.open_sourced.new.drives.items
+    (reads_none g.D.Drive.log c.args.wish told c.in-Ok.opened c.args.drives.now.items c.open_sourced.new.drives.items c.in-Ok.ensures.opening c.in-Ok.ensures.all_read)
+
+pub returns-clause-all_read : goal.returns-clause-all_read
+returns-clause-all_read g c =
+    let olds = c.args.drives.now.items in
+    let taken = c.replace-taken.result.items in
+    let told = all_told g.D.Drive.held olds in
+    let moved : c.open_sourced.new.drives.items ≡ taken = search rules in
+    let Held : List g.row.D.Denot → Type 0 = λ list. EachSame g.D.Drive.held olds list in
+    let Read : List g.row.D.Denot → Type 0 = λ list. IfSome told (λ helds. LogsGrew g.D.Drive.log (opening_reads helds) olds list) in
+    λ zero. reads_all g.D.Drive.log c.args.wish told (all_told g.D.Drive.held taken) c.in-Ok.opened olds taken c.run_picked-back.result.drives.items
+    (all_told-same g.D.Drive.held olds taken (subst Held moved c.in-Ok.ensures.held)) c.in-Ok.ensures.opening (subst Read moved c.in-Ok.ensures.all_read) c.run_picked-back.ensures.reads
+
+pub returns-clause-reads : goal.returns-clause-reads
+returns-clause-reads g c =
+    let olds = c.args.drives.now.items in
+    let taken = c.replace-taken.result.items in
+    let told = all_told g.D.Drive.held olds in
+    let moved : c.open_sourced.new.drives.items ≡ taken = search rules in
+    let Held : List g.row.D.Denot → Type 0 = λ list. EachSame g.D.Drive.held olds list in
+    let Read : List g.row.D.Denot → Type 0 = λ list. IfSome told (λ helds. LogsGrew g.D.Drive.log (opening_reads helds) olds list) in
+    reads_of_all g.D.Drive.log c.args.wish told olds c.run_picked-back.result.drives.items
+    (reads_all g.D.Drive.log c.args.wish told (all_told g.D.Drive.held taken) c.in-Ok.opened olds taken c.run_picked-back.result.drives.items
+    (all_told-same g.D.Drive.held olds taken (subst Held moved c.in-Ok.ensures.held)) c.in-Ok.ensures.opening (subst Read moved c.in-Ok.ensures.all_read) c.run_picked-back.ensures.reads)
+
+pub returns-clause-tally : goal.returns-clause-tally
+returns-clause-tally g c =
+    let olds = c.args.drives.now.items in
+    let taken = c.replace-taken.result.items in
+    let moved : c.open_sourced.new.drives.items ≡ taken = search rules in
+    let Held : List g.row.D.Denot → Type 0 = λ list. EachSame g.D.Drive.held olds list in
+    let now = c.args.tally.now in
+    let new = c.run_picked-back.new.tally in
+    λ zero. tally_of c.args.wish (all_told g.D.Drive.held olds) (all_told g.D.Drive.held taken) c.in-Ok.opened
+    (tallied (g.T.Tally.runs now) (g.T.Tally.runs new) (g.T.Tally.entries now) (g.T.Tally.entries new))
+    (all_told-same g.D.Drive.held olds taken (subst Held moved c.in-Ok.ensures.held)) c.in-Ok.ensures.opening (c.run_picked-back.ensures.tally zero)

@@ -1,0 +1,235 @@
+-- What the words behind COMMAND say of each option: the options' names and ranges, which commands and programs take them
+-- or need them, and what is wrong.
+use Rattle.std.specs.Prelude.{ℕ, Bool, true, false, Option, Some, None, List, [], ◌∷◌, ◌++◌, ◌&&◌, ◌||◌, not, nat_le, nat_lt, nat_eq, is_some, length, if◌then◌else◌, codes, find, option_map}
+use Rattle.std.specs.Option.{option_or}
+use Rattle.std.specs.Cmp.Lexicographic.{pointwise}
+use Rattle.std.specs.List.{list_all}
+use Rattle.std.specs.Str.Parse.{digits_value}
+use Rattle.std.specs.Char.{is_ascii_digit}
+use Rattle.fg_base.specs.declared.refusal.Opt.{Opt}
+use Rattle.fg_base.specs.declared.refusal.Opt.TheVariants.{Program, Source, Max, Cut, Each, Quiet, Unit as UnitPages, Number, Undirected, Input, Start, Nodes, Edges, Drives, Drive}
+use Rattle.fg_base.specs.declared.refusal.WordFault.{WordFault}
+use Rattle.fg_base.specs.declared.refusal.WordFault.TheVariants.{Extra, Missing, Range}
+use Rattle.fg_top.specs.declared.words.command.Command.{Command}
+use Rattle.fg_top.specs.declared.words.command.Command.TheVariants.{Run, Ref}
+use Rattle.fg_top.specs.declared.words.command.ProgramName.{ProgramName}
+use Rattle.fg_top.specs.declared.words.command.ProgramName.TheVariants.{Bfs, Sssp, Rank}
+use Rattle.fg_top.specs.declared.words.command_line.CommandLine.{CommandLine}
+use Rattle.fg_top.specs.declared.words.said.Said.{Said}
+use Rattle.fg_top.specs.declared.words.said.Said.TheVariants.{Nothing, OutOfRange, Value}
+
+-- two words are the same
+abbrev pub is_word : List ℕ → List ℕ → Bool
+is_word word text = pointwise nat_eq word text
+
+-- an option's name
+abbrev pub name_of : Opt → List ℕ
+name_of Program = codes "program"
+name_of Source = codes "source"
+name_of Max = codes "max"
+name_of Cut = codes "cut"
+name_of Each = codes "each"
+name_of Quiet = codes "quiet"
+name_of UnitPages = codes "unit"
+name_of Number = codes "number"
+name_of Undirected = codes "undirected"
+name_of Input = codes "input"
+name_of Start = codes "start"
+name_of Nodes = codes "nodes"
+name_of Edges = codes "edges"
+name_of Drives = codes "drives"
+name_of Drive = codes "drive"
+
+-- two options are the same, which their names tell
+abbrev pub is_same : Opt → Opt → Bool
+is_same option other = is_word (name_of option) (name_of other)
+
+-- the options that are built
+abbrev pub options : List Opt
+options = Program ∷ Source ∷ Max ∷ Cut ∷ Each ∷ Quiet ∷ []
+
+-- the options and the drives, in the order in which refusals look at them
+abbrev pub table : List Opt
+table = options ++ Drive ∷ []
+
+-- the option that a word spells: `--` and the option's name
+abbrev pub option_of : List ℕ → Option Opt
+option_of word = find (λ option. is_word word (codes "--" ++ name_of option)) options
+
+-- the option has no value: it is on where it is there
+abbrev pub is_flag : Opt → Bool
+is_flag Each = true
+is_flag Quiet = true
+is_flag Undirected = true
+is_flag _ = false
+
+-- the command of a name, among those that are built
+abbrev pub command_of : List ℕ → Option Command
+command_of word =
+    if is_word word (codes "run") then Some Run else
+    if is_word word (codes "ref") then Some Ref else
+    None
+
+-- the vertex program of a name, among those that are built
+abbrev pub program_of : List ℕ → Option ProgramName
+program_of word =
+    if is_word word (codes "bfs") then Some Bfs else
+    if is_word word (codes "sssp") then Some Sssp else
+    if is_word word (codes "rank") then Some Rank else
+    None
+
+-- a number is one to twenty digits
+abbrev pub is_number : List ℕ → Bool
+is_number word = nat_le 1 (length word) && nat_le (length word) 20 && list_all is_ascii_digit word
+
+-- the number within a range that a word is
+abbrev pub number_within : ℕ → ℕ → List ℕ → Option ℕ
+number_within least most word =
+    if is_number word && nat_le least (digits_value 10 word) && nat_le (digits_value 10 word) most
+    then Some (digits_value 10 word)
+    else None
+
+-- what an option's value says, by what was found within the option's range
+abbrev pub found : {A : Type 0} → Option A → Said A
+found None = OutOfRange
+found (Some value) = Value value
+
+-- what the words say of an option, by its value where it is there
+abbrev pub said : {A : Type 0} → (List ℕ → Option A) → Option (List ℕ) → Said A
+said within None = Nothing
+said within (Some word) = found (within word)
+
+-- the option is there
+abbrev pub is_there : {A : Type 0} → Said A → Bool
+is_there Nothing = false
+is_there OutOfRange = true
+is_there (Value value) = true
+
+-- the option is there with a value that isn't in its range
+abbrev pub is_out_of_range : {A : Type 0} → Said A → Bool
+is_out_of_range Nothing = false
+is_out_of_range OutOfRange = true
+is_out_of_range (Value value) = false
+
+-- the option's value, or a default where there is none
+abbrev pub value_or : {A : Type 0} → Said A → A → A
+value_or Nothing default = default
+value_or OutOfRange default = default
+value_or (Value value) default = value
+
+-- an option with its value, which is empty for a flag
+pub record Given : Type 0 where
+  pub option : Opt
+  pub value : List ℕ
+
+-- the value of an option among those given
+abbrev pub value_of : Opt → List Given → Option (List ℕ)
+value_of option given = option_map (λ one. one.value) (find (λ one. is_same one.option option) given)
+
+-- what the given options and the drives behind them say, each value within its option's range
+abbrev pub line_of : List Given → List (List ℕ) → CommandLine
+line_of given drives = record {
+  program = said program_of (value_of Program given);
+  source = said (number_within 0 4294967295) (value_of Source given);
+  max = said (number_within 1 4294967295) (value_of Max given);
+  cut = said (number_within 1 18446744073709551615) (value_of Cut given);
+  each = is_some (value_of Each given);
+  quiet = is_some (value_of Quiet given);
+  drives = length drives;
+}
+
+-- the line that one more option leaves, whose value a flag doesn't look at
+abbrev pub with_option : CommandLine → Opt → List ℕ → CommandLine
+with_option line Program value = record line { program = found (program_of value) }
+with_option line Source value = record line { source = found (number_within 0 4294967295 value) }
+with_option line Max value = record line { max = found (number_within 1 4294967295 value) }
+with_option line Cut value = record line { cut = found (number_within 1 18446744073709551615 value) }
+with_option line Each value = record line { each = true }
+with_option line Quiet value = record line { quiet = true }
+with_option line option value = line
+
+-- the option is there
+abbrev pub is_given : CommandLine → Opt → Bool
+is_given line Program = is_there line.program
+is_given line Source = is_there line.source
+is_given line Max = is_there line.max
+is_given line Cut = is_there line.cut
+is_given line Each = line.each
+is_given line Quiet = line.quiet
+is_given line Drive = nat_lt 0 line.drives
+is_given line _ = false
+
+-- the option's value isn't in its range; of drives there are 16 at most
+abbrev pub is_beyond : CommandLine → Opt → Bool
+is_beyond line Program = is_out_of_range line.program
+is_beyond line Source = is_out_of_range line.source
+is_beyond line Max = is_out_of_range line.max
+is_beyond line Cut = is_out_of_range line.cut
+is_beyond line Drive = nat_lt 16 line.drives
+is_beyond line _ = false
+
+-- the options of a run
+abbrev pub is_of_runs : Opt → Bool
+is_of_runs Program = true
+is_of_runs Source = true
+is_of_runs Max = true
+is_of_runs Cut = true
+is_of_runs Each = true
+is_of_runs Quiet = true
+is_of_runs Drive = true
+is_of_runs _ = false
+
+-- the command takes the option
+abbrev pub is_taken_by : Command → Opt → Bool
+is_taken_by Run option = is_of_runs option
+is_taken_by Ref option = is_of_runs option
+
+-- what no run is without
+abbrev pub is_in_each_run : Opt → Bool
+is_in_each_run Program = true
+is_in_each_run Drive = true
+is_in_each_run _ = false
+
+-- the command needs the option
+abbrev pub is_needed_by : Command → Opt → Bool
+is_needed_by Run option = is_in_each_run option
+is_needed_by Ref option = is_in_each_run option
+
+-- the program has a use for the option
+abbrev pub has_use_for : ProgramName → Opt → Bool
+has_use_for Bfs Cut = false
+has_use_for Sssp Cut = false
+has_use_for Rank Source = false
+has_use_for program option = true
+
+-- the program can't do without the option
+abbrev pub depends_on : ProgramName → Opt → Bool
+depends_on Bfs Source = true
+depends_on Sssp Source = true
+depends_on program option = false
+
+-- the program that is named has a use for the option; where its name isn't known, or isn't there, no option is held
+-- against it
+abbrev pub is_useful : Said ProgramName → Opt → Bool
+is_useful (Value program) option = has_use_for program option
+is_useful unknown option = true
+
+-- the program that is named can't do without the option; one that isn't known or isn't there misses none
+abbrev pub is_vital : Said ProgramName → Opt → Bool
+is_vital (Value program) option = depends_on program option
+is_vital unknown option = false
+
+-- the option is there and isn't taken
+abbrev pub is_extra : Command → CommandLine → Opt → Bool
+is_extra command line option = is_given line option && not (is_taken_by command option && is_useful line.program option)
+
+-- the option isn't there and is required
+abbrev pub is_missing : Command → CommandLine → Opt → Bool
+is_missing command line option = not (is_given line option) && (is_needed_by command option || is_vital line.program option)
+
+-- what is wrong: the first option that is extra, or else the first that is missing, or else the first out of its range
+abbrev pub fault_of : Command → CommandLine → Option WordFault
+fault_of command line =
+    option_or (option_map Extra (find (is_extra command line) table))
+    (option_or (option_map Missing (find (is_missing command line) table))
+    (option_map Range (find (is_beyond line) table)))

@@ -1,0 +1,64 @@
+-- A run from behind its head on: what it comes to, and what is written at its end.
+use Rattle.std.specs.Prelude.{◌≡◌, ◌<◌, ℕ, Bool, Option, None, Some, Result, Ok, Err, List, ◌++◌, IfSome, map}
+use Rattle.fg_base.specs.declared.plain.Value.{Value}
+use Rattle.fg_base.specs.declared.plain.VState.{VState}
+use Rattle.fg_base.specs.declared.refusal.Refusal.{Refusal}
+use Rattle.fg_model.specs.declared.graph.Graph.{Graph}
+use Rattle.fg_model.specs.declared.run.End.{End}
+use Rattle.fg_model.specs.declared.run.RunFault.{RunFault}
+use Rattle.fg_model.specs.Program.{Rules}
+use Rattle.fg_model.specs.Run.{Run, run}
+use Rattle.fg_report.specs.Lines.{end_line}
+use Rattle.fg_report.specs.Refusals.{refusal_line}
+use Rattle.fg_top.specs.declared.jobs.JobFault.{JobFault}
+use Rattle.fg_top.specs.declared.jobs.Pick.{Pick}
+use Rattle.fg_top.specs.declared.jobs.Wish.{Wish}
+use Rattle.fg_top.specs.Ends.{IsWritten, Output}
+use Rattle.fg_top.specs.Outcome.{MayClose, Outcome, rules_of, run_close, source_of, text_of, values_or_sum}
+
+-- the refusal of words that give no job
+abbrev pub words_refusal : JobFault → Refusal
+words_refusal JobFault.Memory = Refusal.Memory
+words_refusal (JobFault.Words fault) = Refusal.Words fault
+
+-- the source of a program that has one is a vertex
+abbrev pub IsSourced : Pick → ℕ → Type 0
+IsSourced pick vertices = IfSome (source_of pick) (λ source. source < vertices)
+
+-- the run that is wished for over this graph
+abbrev pub run_in : Wish → Graph → Run
+run_in wish graph = run (rules_of wish.pick) graph wish.max
+
+-- what a run of these rules comes to behind its head
+abbrev pub behind_head : Rules → Wish → Run → Outcome
+behind_head rules wish run = record {
+  lines = map (text_of wish.each rules.show) run.finished;
+  close = run_close wish.quiet rules.show run.ending run.iterations run.states;
+}
+
+-- behind its head the run comes to this outcome, by what is told of it
+abbrev pub RunComesTo : {A : Type 0} → Rules → Wish → Option A → (A → Run) → Outcome → Type 0
+RunComesTo rules wish None run_of outcome = MayClose wish outcome.close
+RunComesTo rules wish (Some told) run_of outcome = outcome ≡ behind_head rules wish (run_of told)
+
+-- the last text of a run with an end
+abbrev pub last_text : Bool → (VState → Value) → End → List ℕ
+last_text quiet show end = end_line end.settled end.iterations ++ values_or_sum quiet show end.states
+
+-- nothing more was written, since a put failed
+pub record IsGivenUp (output : Output) (status : ℕ) : Type 0 where
+  pub faults : output.new_faults ≡ output.old_faults
+  pub text : output.new_text ≡ output.old_text
+  pub failed : status ≡ 4
+
+-- what is written where a run has no end: the line of the fault's refusal
+abbrev pub IsRunRefused : Output → RunFault → ℕ → Type 0
+IsRunRefused output RunFault.Memory status = IsWritten output (Some Refusal.Memory) (refusal_line Refusal.Memory) status
+IsRunRefused output (RunFault.Drive drive) status = IsWritten output (Some (Refusal.DriveFault drive)) (refusal_line (Refusal.DriveFault drive)) status
+IsRunRefused output (RunFault.BadEdge bad) status = IsWritten output (Some (Refusal.BadEdge bad)) (refusal_line (Refusal.BadEdge bad)) status
+IsRunRefused output RunFault.Watch status = IsGivenUp output status
+
+-- what is written behind the iterations of a run: the last text, or the refusal of its fault
+abbrev pub IsClosed : Bool → (VState → Value) → Output → Result End RunFault → ℕ → Type 0
+IsClosed quiet show output (Ok end) status = IsWritten output None (last_text quiet show end) status
+IsClosed quiet show output (Err fault) status = IsRunRefused output fault status

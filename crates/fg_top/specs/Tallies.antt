@@ -1,0 +1,55 @@
+-- How a job raises the tally.
+use Rattle.std.specs.Prelude.{◌≡◌, ℕ, ◌+◌, Result, Ok, Err, List}
+use Rattle.fg_base.specs.declared.refusal.Refusal.{Refusal}
+use Rattle.fg_base.specs.declared.refusal.WordFault.{WordFault}
+use Rattle.fg_build.specs.declared.opened.Opened.{Opened}
+use Rattle.fg_build.specs.Opening.{opening_of}
+use Rattle.fg_model.specs.Run.{Run, entries_of, runs_of}
+use Rattle.fg_top.specs.declared.jobs.Job.{Job}
+use Rattle.fg_top.specs.declared.jobs.Wish.{Wish}
+use Rattle.fg_top.specs.Outcome.{run_on, wish_of}
+use Rattle.fg_top.specs.Words.{job_of}
+
+-- the tally's two numbers before and after a job
+pub record Tallied : Type 0 where
+  pub old_runs : ℕ
+  pub new_runs : ℕ
+  pub old_entries : ℕ
+  pub new_entries : ℕ
+
+abbrev pub tallied : ℕ → ℕ → ℕ → ℕ → Tallied
+tallied old_runs new_runs old_entries new_entries =
+    record { old_runs = old_runs; new_runs = new_runs; old_entries = old_entries; new_entries = new_entries }
+
+-- both numbers are as before
+pub record Stood (tally : Tallied) : Type 0 where
+  pub runs : tally.new_runs ≡ tally.old_runs
+  pub entries : tally.new_entries ≡ tally.old_entries
+
+-- they rose by the run's vertex runs and by their needed entries
+pub record RoseByRun (run : Run) (tally : Tallied) : Type 0 where
+  pub runs : tally.new_runs ≡ tally.old_runs + runs_of run.finished
+  pub entries : tally.new_entries ≡ tally.old_entries + entries_of run.finished
+
+-- they rose by the wished run on drives that hold these bytes and open so
+abbrev pub RoseByWish : Wish → List (List ℕ) → Result Opened Refusal → Tallied → Type 0
+RoseByWish wish helds (Err refusal) tally = ⊥
+RoseByWish wish helds (Ok opened) tally = RoseByRun (run_on wish opened helds) tally
+
+-- what a job that is done did to the tally: a run raised it, a run in memory left it
+abbrev pub IsTalliedBy : Result Job WordFault → List (List ℕ) → Tallied → Type 0
+IsTalliedBy (Err fault) helds tally = ⊥
+IsTalliedBy (Ok (Job.Run pick max each quiet)) helds tally = RoseByWish (wish_of (Job.Run pick max each quiet)) helds (opening_of helds) tally
+IsTalliedBy (Ok (Job.Ref pick max each quiet)) helds tally = Stood tally
+
+abbrev pub IsTallied : List (List ℕ) → List (List ℕ) → Tallied → Type 0
+IsTallied words helds tally = IsTalliedBy (job_of words) helds tally
+
+-- what any end does to the tally where the job doesn't run on drives: it stands
+abbrev pub StandsBy : Result Job WordFault → Tallied → Type 0
+StandsBy (Err fault) tally = Stood tally
+StandsBy (Ok (Job.Run pick max each quiet)) tally = Unit {0}
+StandsBy (Ok (Job.Ref pick max each quiet)) tally = Stood tally
+
+abbrev pub Stands : List (List ℕ) → Tallied → Type 0
+Stands words tally = StandsBy (job_of words) tally
