@@ -1,0 +1,13 @@
+pub mod DedupLemmas
+pub mod DigitsLemmas
+pub mod EdgeLineLemmas
+pub mod GatheredLemmas
+pub mod GeneratorLemmas
+pub mod LineLemmas
+pub mod MadeLemmas
+pub mod MergedLemmas
+pub mod OrderLemmas
+pub mod PiecesLemmas
+pub mod ReadLemmas
+pub mod ReaderLemmas
+pub mod RefusedLemmas

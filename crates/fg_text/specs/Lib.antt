@@ -1,0 +1,10 @@
+pub mod Gathered
+pub mod Generator
+pub mod Line
+pub mod Made
+pub mod Merged
+pub mod Pieces
+pub mod Rank
+pub mod Read
+pub mod Reader
+pub mod Text
