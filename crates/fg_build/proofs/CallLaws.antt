@@ -1,6 +1,7 @@
 -- One call of drives after another: what was kept, read and counted.
-use Rattle.std.proofs.Common.{◌≡◌, ◌∙◌, ℕ, ◌≤◌, Option, None, Some, IfSome, List, [], ◌∷◌, ◌++◌, ◌+◌, length, take, drop, map, Result, Ok, Err, refl, sym, ap, subst}
+use Rattle.std.proofs.Common.{◌≡◌, ◌∙◌, ℕ, ◌≤◌, Option, None, Some, IfSome, List, [], ◌∷◌, ◌++◌, ◌+◌, length, take, drop, map, Result, Ok, Err, refl, sym, ap, subst, min, arith}
 use Rattle.std.proofs.lemmas.List.FromFn.{map-range_with_len_more, take-map-range_with_len}
+use Rattle.std.proofs.lemmas.Grind.{common_steps}
 use Rattle.std.proofs.lemmas.List.{take-append-drop}
 use Rattle.std.proofs.Math.Seq.{take-append_seam}
 use Rattle.std.specs.List.{range_with_len}
@@ -158,3 +159,7 @@ ReadFor-first faults log reads olds news (Err refusal) until = until.logs
 pub whole_written : {A : Type 0} (items new : List A) (len : ℕ) → len ≡ length items → length new ≡ length items → take len (new ++ drop (length new) items) ≡ new
 whole_written items new len all same =
     ap (λ (n : ℕ). take n (new ++ drop (length new) items)) (all ∙ sym same) ∙ take-append_seam new (drop (length new) items)
+
+-- a first of a list is a first of a longer one
+pub take-within : {A : Type 0} (first second : List A) (k : ℕ) → take k first ≡ take (min k (length first)) (first ++ second)
+take-within first second k = grind (arith, common_steps)

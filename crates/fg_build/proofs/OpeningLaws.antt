@@ -9,7 +9,7 @@ use Rattle.fg_build.specs.Opening.{opened_by, opening_of}
 use Rattle.fg_build.specs.OpeningReads.{index_reads, label_reads, opening_reads, page_read, page_reads, reads_behind}
 use Rattle.fg_build.specs.Pages.{IsStriped, pages_at}
 use Rattle.fg_build.proofs.CallLaws.{IfSome-all, IfSome-both, ReadUntil-before, SaysOf-weaker}
-use Rattle.fg_build.proofs.ImageLaws.{image_behind, image_front}
+use Rattle.fg_build.proofs.ImageLaws.{image_behind}
 use Rattle.fg_build.proofs.RefusalLaws.{opening_by}
 use Rattle.fg_image.specs.declared.header.Header.{Header}
 use Rattle.fg_image.specs.Front.{Front, HeaderFits, front_at}
@@ -21,6 +21,7 @@ use Rattle.fg_outside.specs.Drives.{DriveRead, all_told}
 use Rattle.fg_outside.proofs.DriveLemmas.{all_told-length}
 use Rattle.fg_stripe.specs.declared.label.Label.{Label}
 use Rattle.fg_stripe.specs.declared.layout.Layout.{Layout}
+use Rattle.fg_stripe.proofs.HeldLaws.{page_of-image_on}
 use Rattle.fg_stripe.specs.Held.{image_on, page_on}
 
 -- the pages of the index, of an image with this header
@@ -36,7 +37,7 @@ module _ (label : Label) (helds : List (List ℕ)) (was : IsAllLabelled helds (O
   with_labels found is =
       let image = image_on label.unit label.pages helds in
       opening_by helds (Some label) None was.0 was.1
-      ∙ ap (λ (front : Result Front Refusal). opened_by label (with_front image front)) (ap (front_at label.pages) (image_front label.unit label.pages helds whole some) ∙ is)
+      ∙ ap (λ (front : Result Front Refusal). opened_by label (with_front image front)) (ap (front_at label.pages) (page_of-image_on label.unit label.pages helds 0 whole some) ∙ is)
 
   -- and behind the header the index
   with_header : (header : Header) (layout : Layout) → HeaderFits header layout → layout.pages ≡ label.pages

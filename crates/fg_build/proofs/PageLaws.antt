@@ -53,7 +53,8 @@ HoldWhole-same told layout olds news same whole = (
   EachTold-same told (λ drive. 1 + length (pages_on drive layout.drives layout.unit layout.pages)) olds news same whole.1,
 )
 
-range_more : (a n : ℕ) → range_with_len a (n + 1) ≡ range_with_len a n ++ (a + n) ∷ []
+-- one number more
+pub range_more : (a n : ℕ) → range_with_len a (n + 1) ≡ range_with_len a n ++ (a + n) ∷ []
 range_more a n = sym (map_same (range_with_len a (n + 1))) ∙ map-range_with_len_more (λ x. x) a n (a + n) refl ∙ ap (λ (l : List ℕ). l ++ (a + n) ∷ []) (map_same (range_with_len a n))
   where
     map_same : (l : List ℕ) → map (λ x. x) l ≡ l

@@ -160,7 +160,8 @@ pub enough_first : {D : Type 0} (told : D → ℕ) (need : ℕ → ℕ) (olds ne
 enough_first {D} told need olds news enough =
     enough_more told need 0 olds news enough (each_by 0 (λ (number : ℕ) (one : D). number < 0 → need number ≤ told one) (λ number one below. absurd (omega (arith, below))) olds)
 
-each_within : {D : Type 0} (first : ℕ) (P Q : ℕ → D → Type 0) (drives : List D) → ((number : ℕ) (one : D) → number < first + length drives → P number one → Q number one)
+-- a fact of each drive, where its number is known to be one of a drive
+pub each_within : {D : Type 0} (first : ℕ) (P Q : ℕ → D → Type 0) (drives : List D) → ((number : ℕ) (one : D) → number < first + length drives → P number one → Q number one)
     → HasEachFrom first P drives → HasEachFrom first Q drives
 each_within first P Q [] holds has = tt
 each_within first P Q (one ∷ drives) holds has =

@@ -1,12 +1,11 @@
 -- The answers of looking whether drives are empty, and of building on them, by cases.
-use Rattle.std.specs.Prelude.{◌≡◌, ◌≤◌, ◌<◌, ℕ, zero, suc, ◌/◌, Option, IfSome, Result, Ok, Err, List, [], ◌∷◌, length}
+use Rattle.std.specs.Prelude.{◌≡◌, ◌≤◌, ◌<◌, ℕ, zero, suc, ◌/◌, Option, Result, Ok, Err, List, [], ◌∷◌, length, take}
 use Rattle.fg_base.specs.declared.refusal.Refusal.{Refusal}
-use Rattle.fg_base.specs.declared.refusal.Refusal.TheVariants as Refusal
 use Rattle.fg_base.specs.Told.{grown, GrewByFirst}
+use Rattle.fg_build.specs.Appending.{RoomyKeptFor}
 use Rattle.fg_build.specs.Layouts.{Plan, drive_bytes}
 use Rattle.fg_model.specs.Edges.{EdgeList}
-use Rattle.fg_outside.specs.Drives.{EachDriveFrom, EachSame, HasEach, NoneRose, RoseFirst}
-use Rattle.fg_outside.specs.Pages.{HasRoom}
+use Rattle.fg_outside.specs.Drives.{EachDriveFrom, EachSame, NoneRose, RoseFirst}
 
 -- the drive of this number is the first that holds a whole page
 abbrev pub IsFirstFull : ℕ → List (List ℕ) → Type 0
@@ -19,11 +18,12 @@ abbrev pub AreEmpty : List (List ℕ) → Type 0
 AreEmpty [] = Unit {0}
 AreEmpty (held ∷ helds) = (length held < 4096) × AreEmpty helds
 
--- what an answer says of what the drives hold
+-- what an answer says of what the drives hold; a drive that failed was looked at once those before it were found empty
 abbrev pub SaysEmpty : Result Unit Refusal → List (List ℕ) → Type 0
 SaysEmpty (Ok unit) helds = AreEmpty helds
 SaysEmpty (Err (Refusal.NotEmpty drive)) helds = IsFirstFull drive helds
-SaysEmpty (Err refusal) helds = Unit {0}
+SaysEmpty (Err (Refusal.DriveFault drive)) helds = AreEmpty (take drive helds)
+SaysEmpty (Err refusal) helds = ⊥
 
 -- whose count of faults rose by an answer of looking: the named drive's first, or none
 abbrev pub EmptyCounts : {D : Type 0} → (D → ℕ) → List D → List D → Result Unit Refusal → Type 0
@@ -32,9 +32,9 @@ EmptyCounts faults olds news (Err (Refusal.NotEmpty drive)) = NoneRose faults ol
 EmptyCounts faults olds news (Err (Refusal.DriveFault drive)) = RoseFirst faults drive olds news
 EmptyCounts faults olds news (Err refusal) = ⊥
 
--- each drive tells room enough for its part of the image of these edges
-abbrev pub AreRoomy : {D : Type 0} → (D → Option ℕ) → Plan → EdgeList → List D → Type 0
-AreRoomy room plan edges drives = HasEach (λ drive one. HasRoom (room one) (length (drive_bytes plan edges drive) / 4096)) drives
+-- no drive failed that tells room for its part of the image of these edges, whatever the others did
+abbrev pub RoomyKeptForImage : {D : Type 0} → (D → Option ℕ) → (D → ℕ) → Plan → EdgeList → List D → List D → Type 0
+RoomyKeptForImage room faults plan edges olds news = RoomyKeptFor room faults (λ drive. length (drive_bytes plan edges drive) / 4096) olds news
 
 -- each drive holds its part of the image of these edges behind what it held, or a first of it
 abbrev pub HoldImage : {D : Type 0} → (D → Option (List ℕ)) → Plan → EdgeList → List D → List D → Type 0

@@ -1,5 +1,5 @@
 -- What drives hold when an image was built over them.
-use Rattle.std.specs.Prelude.{◌≡◌, ℕ, ◌/◌, List, ◌++◌, length, map}
+use Rattle.std.specs.Prelude.{ℕ, ◌+◌, ◌/◌, List, ◌++◌, length, map}
 use Rattle.std.specs.List.{flat_map, range_with_len}
 use Rattle.fg_image.specs.Made.{image_bytes}
 use Rattle.fg_model.specs.Edges.{EdgeList}
@@ -26,6 +26,10 @@ abbrev pub layout_of : Plan → List ℕ → ℕ → List ℕ
 layout_of plan image drive =
     label_bytes (label_for plan (length image / 4096) drive)
     ++ flat_map (page_of image) (pages_on drive plan.drives plan.unit (length image / 4096))
+
+-- how many pages they are
+abbrev pub layout_pages : Plan → List ℕ → ℕ → ℕ
+layout_pages plan image drive = 1 + length (pages_on drive plan.drives plan.unit (length image / 4096))
 
 -- what a drive holds of the image of these edges
 unfoldable pub drive_bytes : Plan → EdgeList → ℕ → List ℕ

@@ -4,6 +4,8 @@
 //! image opens its drives here, and knows them by what opening answered.
 #![tactic(auto)]
 
+mod appending;
+mod building;
 mod front;
 mod labels;
 mod opened;
@@ -13,6 +15,7 @@ mod reading;
 #[cfg(test)]
 mod tests;
 
+pub use building::{build, empty};
 pub use opened::Opened;
 pub use opening::open;
 pub use reading::read_all;

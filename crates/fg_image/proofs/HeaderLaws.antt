@@ -1,7 +1,7 @@
 -- Which header pages are accepted, test by test, and what an accepted header's numbers have to do with one another.
 use Rattle.std.proofs.Common.{◌≡◌, ℕ, ◌+◌, ◌*◌, ◌^◌, ◌≤◌, Bool, true, false, ◌&&◌, nat_eq, Ok, Err, List, drop, refl, sym, ap, ◌∙◌, eqb, eq-eqb}
 use Rattle.std.specs.List.{starts_with}
-use Rattle.std.proofs.lemmas.Bool.{and_left, and_right, cond-true, cond-false, eqb-true, leb-true}
+use Rattle.std.proofs.lemmas.Bool.{and_left, and_right, cond-true, cond-false, eqb-true, le-leb, leb-true}
 use Rattle.std.specs.Cmp.Derive.{both_true}
 use Rattle.fg_base.specs.declared.refusal.Refusal.TheVariants.{BadHeader}
 use Rattle.fg_image.specs.declared.header.Header.{Header}
@@ -84,6 +84,12 @@ stands pages header has =
       end = eqb-true _ _ end.1;
       all = eqb-true _ _ all.1;
     }
+
+pub has_sections-from : (pages : ℕ) (header : Header) → Stands pages header → has_sections pages header ≡ true
+has_sections-from pages header s =
+    let bytes = both_true (both_true (eq-eqb _ _ s.out_bytes) (eq-eqb _ _ s.in_bytes)) (le-leb _ _ s.index_bytes) in
+    let firsts = both_true (both_true (both_true bytes (eq-eqb _ _ s.out_first)) (eq-eqb _ _ s.in_first)) (eq-eqb _ _ s.index_first) in
+    both_true (both_true firsts (eq-eqb _ _ s.end)) (eq-eqb _ _ s.all)
 
 pub header_fits : (pages : ℕ) (header : Header) → has_sections pages header ≡ true → is_counted header ≡ true → pages ≤ 2 ^ 19
     → HeaderFits header (record { drives = 1; unit = 1; pages = pages; out_first = header.out_first; in_first = header.in_first })

@@ -1,5 +1,16 @@
+pub mod CellLaws
+pub mod EdgeListsLaws
 pub mod EntryLaws
+pub mod GroupLaws
+pub mod HeaderBytesLaws
 pub mod HeaderLaws
+pub mod ImageBytesLaws
+pub mod IndexBytesLaws
 pub mod LimitLaws
+pub mod MakingLaws
 pub mod PartsLaws
+pub mod PlaceLaws
+pub mod RangeLaws
+pub mod SectionBytesLaws
 pub mod SpanLaws
+pub mod TallyLaws

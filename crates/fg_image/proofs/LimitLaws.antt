@@ -1,11 +1,12 @@
 -- The graph of an image is within the limits, whatever its bytes.
-use Rattle.std.proofs.Common.{◌≡◌, ℕ, zero, suc, ◌+◌, ◌*◌, ◌^◌, ◌<◌, ◌≤◌, Bool, true, false, List, length, take, drop, get_or, map, sum, refl, sym, ap, subst, ◌∙◌, arith, inl, inr}
+use Rattle.std.proofs.Common.{◌≡◌, ℕ, zero, suc, ◌+◌, ◌^◌, ◌<◌, ◌≤◌, Bool, true, false, List, length, take, drop, get_or, map, sum, refl, sym, ap, subst, ◌∙◌, arith, inl, inr}
 use Rattle.std.specs.Prelude.{All, sum_by}
 use Rattle.std.specs.List.{range_with_len}
 use Rattle.std.proofs.lemmas.Bool.{cases_lt}
 use Rattle.std.proofs.lemmas.List.{get_or-drop, get_or_past, take_all}
 use Rattle.std.proofs.lemmas.List.Elements.{All-cons, All-from_get_or, All-get_or, All-map, All-nil}
 use Rattle.std.proofs.lemmas.List.FromFn.{length-map-range_with_len, sum_by-map-range_with_len_more}
+use Rattle.byteorder.specs.Numbers.{little_from-lt}
 use Rattle.fg_base.specs.declared.plain.Dir.{Dir}
 use Rattle.fg_base.specs.declared.plain.Dir.TheVariants.{Out, In}
 use Rattle.fg_base.specs.declared.plain.Entry.{Entry}
@@ -34,11 +35,8 @@ bytes_of bytes all = record {
 -- a number of four bytes
 number_fits : (bytes : List ℕ) (place : ℕ) → IsBytes bytes → number_at bytes place < 2 ^ 32
 number_fits bytes place is =
-    let digit : (k : ℕ) → get_or (drop place bytes) k 0 < 256 = λ k. let P : ℕ → Type 0 = λ b. b < 256 in subst P (sym (get_or-drop place bytes k 0)) (is.each (place + k)) in
-    digits _ _ _ _ (digit 0) (digit 1) (digit 2) (digit 3)
-  where
-    digits : (a b c d : ℕ) → a < 256 → b < 256 → c < 256 → d < 256 → a + 256 * (b + 256 * (c + 256 * (d + 256 * 0))) < 2 ^ 32
-    digits a b c d pa pb pc pd = omega arith
+    let P : ℕ → Type 0 = λ b. b < 256 in
+    little_from-lt 0 4 (drop place bytes) (λ k. subst P (sym (get_or-drop place bytes k 0)) (is.each (place + k)))
 
 entry_is : (weighted : Bool) (bytes : List ℕ) (place : ℕ) → IsBytes bytes → IsEntryOf weighted (entry_at weighted bytes place)
 entry_is true bytes place is = record {

@@ -3,3 +3,4 @@ pub mod Header
 pub mod Image
 pub mod Lists
 pub mod Made
+pub mod Making

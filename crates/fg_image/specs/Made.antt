@@ -1,12 +1,11 @@
 -- The image that is made of a graph's edges.
-use Rattle.std.specs.Prelude.{ℕ, ◌+◌, ◌-◌, ◌*◌, ◌/◌, ◌==◌, ◌^◌, min, nat_le, Bool, true, false, List, [], ◌∷◌, ◌++◌, filter, length, map, replicate, sum_by, if◌then◌else◌}
+use Rattle.std.specs.Prelude.{ℕ, ◌+◌, ◌-◌, ◌*◌, ◌==◌, min, nat_le, Bool, true, false, List, [], ◌∷◌, ◌++◌, filter, length, map, replicate, sum_by, if◌then◌else◌}
 use Rattle.std.specs.List.{count_by, flat_map, range_with_len}
 use Rattle.byteorder.specs.Endian.{little_bytes}
 use Rattle.fg_base.specs.declared.plain.Entry.{Entry}
 use Rattle.fg_image.specs.declared.header.Header.{Header}
 use Rattle.fg_image.specs.Header.{image_magic, pages_for}
 use Rattle.fg_index.specs.ImageIndex.{entry_bytes}
-use Rattle.fg_model.specs.declared.edges.Pair.{Pair}
 use Rattle.fg_model.specs.declared.graph.Graph.{Graph}
 use Rattle.fg_model.specs.Edges.{EdgeList}
 

@@ -30,7 +30,7 @@ pub fn entry_at(weighted: bool, bytes: &[u8], place: usize) -> Entry
 }
 
 /// The bytes of an entry.
-fn entry_bytes(weighted: bool) -> usize
+pub(crate) fn entry_bytes(weighted: bool) -> usize
     ensures size { result ≡ entry_bytes weighted }
     ensures few { result ≤ 8 }
 {

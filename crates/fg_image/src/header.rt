@@ -1,9 +1,10 @@
 //! The header page of an image.
 
 ghost use Rattle.std.specs.Prelude.{◌≡◌, ◌≤◌, ◌==◌, ◌*◌, ◌^◌, true, IfOk, length};
-ghost use Rattle.fg_base.specs.declared.limits.TheConstants.{MAX_IMAGE_PAGES, PAGE_BYTES};
+ghost use Rattle.fg_base.specs.declared.limits.TheConstants.{MAX_ENTRIES, MAX_IMAGE_PAGES, PAGE_BYTES};
 ghost use Rattle.fg_image.specs.Front.{HeaderFits};
 ghost use Rattle.fg_image.specs.Header.{has_sections, header_at, header_of, is_counted, is_weighted, pages_for, sections_of, size_of};
+ghost use Rattle.fg_image.specs.Making.{header_with};
 
 use fg_base::Refusal;
 use fg_base::limits::{MAX_ENTRIES, MAX_VERTICES, PAGE_BYTES};
@@ -11,10 +12,13 @@ use fg_stripe::Layout;
 use fg_stripe::bytes::{is_blank, number_at, wide_number_at};
 
 /// What each header page begins with.
-const MAGIC: [u8; 8] = *b"FGIMAGE\0";
+pub(crate) const MAGIC: [u8; 8] = *b"FGIMAGE\0";
 
 /// The one version of the image's form.
 const VERSION: u32 = 1;
+
+/// The byte of the page at which the numbers end. Behind it there are zeros.
+pub(crate) const NUMBERS_END: usize = 76;
 
 /// The most bytes of an index, 2^27.
 const MAX_INDEX_BYTES: u64 = 134_217_728;
@@ -64,7 +68,7 @@ impl Header {
         if header.version != VERSION {
             return Err(Refusal::BadVersion(header.version));
         }
-        if header.is_counted() && is_blank(&page[76..]) {
+        if header.is_counted() && is_blank(&page[NUMBERS_END..]) {
             Ok(header)
         } else {
             Err(Refusal::BadHeader)
@@ -87,6 +91,32 @@ impl Header {
             out_first: self.out_first,
             in_first: self.in_first,
         })
+    }
+
+    /// The header of an image of so many vertices and edges, each of which is an out-entry and an in-entry, whose index
+    /// has so many bytes.
+    pub(crate) fn with(weighted: bool, n: u32, edges: u64, index_bytes: u64) -> Header
+        requires few_edges { edges ≤ MAX_ENTRIES }
+        requires few_bytes { index_bytes ≤ 2 ^ 27 }
+        ensures { result ≡ header_with weighted n edges edges index_bytes }
+    {
+        let bytes = edges * if weighted { 8 } else { 4 };
+        let in_first = 1 + pages_for(bytes) as u32;
+        let index_first = in_first + pages_for(bytes) as u32;
+        Header {
+            version: VERSION,
+            flags: if weighted { 1 } else { 0 },
+            n,
+            pages: index_first + pages_for(index_bytes) as u32,
+            out_entries: edges,
+            in_entries: edges,
+            out_bytes: bytes,
+            in_bytes: bytes,
+            index_bytes,
+            out_first: 1,
+            in_first,
+            index_first,
+        }
     }
 
     /// Whether entries have weights.

@@ -1,14 +1,20 @@
-//! An image as bytes: its header page, and the graph in its sections.
+//! An image as bytes: its header page, the graph in its sections, and the image that is made of edges.
 //!
-//! Below stand the base, the model's graph, the index and the striping. What opens an image reads its [`Header`], which
-//! tells where the sections stand; `graph_of` cuts the lists of a whole image in memory out of them.
+//! Below stand the base, the model's graph and edges, the index and the striping. What opens an image reads its [`Header`],
+//! which tells where the sections stand; `graph_of` cuts the lists of a whole image in memory out of them, and
+//! `make_image` spells the image of edges, whose graph is theirs again; `image_pages` tells its pages without making it.
 #![tactic(auto)]
 
 mod cut;
 mod header;
+mod making;
 mod parts;
+mod place;
+mod spell;
+mod tally;
 #[cfg(test)]
 mod tests;
 
 pub use cut::{cut_graph, entry_at, graph_of};
 pub use header::Header;
+pub use making::{image_pages, make_image};

@@ -1,10 +1,10 @@
 //! The header, the sections and the graphs of a small image written by hand: five vertices, five edges.
 
 use crate::parts::read_parts;
-use crate::{Header, graph_of};
+use crate::{Header, graph_of, image_pages, make_image};
 use fg_base::limits::PAGE_BYTES;
-use fg_base::{Entry, Items, Refusal};
-use fg_model::Graph;
+use fg_base::{Entry, Items, Memory, Refusal};
+use fg_model::{Edges, Graph, Pair};
 use fg_stripe::Layout;
 use std::alloc::{AllocError, Global};
 use std::test::Fail;
@@ -31,6 +31,17 @@ const HEADER: Header = Header {
     in_first: 2,
     index_first: 3,
 };
+
+/// Its out-lists and its in-lists, without weights.
+const OUTS: [u8; 40] = [
+    1, 0, 0, 0, 2, 0, 0, 0, 3, 0, 0, 0, 3, 0, 0, 0, 4, 0, 0, 0, 0, 0, 0, 0, 0, 0, 0, 0, 0, 0, 0, 0,
+    0, 0, 0, 0, 0, 0, 0, 0,
+];
+
+const INS: [u8; 40] = [
+    0, 0, 0, 0, 0, 0, 0, 0, 1, 0, 0, 0, 2, 0, 0, 0, 3, 0, 0, 0, 0, 0, 0, 0, 0, 0, 0, 0, 0, 0, 0, 0,
+    0, 0, 0, 0, 0, 0, 0, 0,
+];
 
 /// What the header page reads as, with these bytes of it changed.
 fn read_with(changes: &[(usize, u8)]) -> Result<Header, Refusal> {
@@ -289,15 +300,7 @@ fn are_rows(rows: &Items<Items<Entry>>, wanted: &[&[Entry]]) -> bool {
 
 #[test]
 fn an_unweighted_graph_is_cut_out(rt: HostRuntime) -> Result<(), Fail> {
-    let outs = [
-        1, 0, 0, 0, 2, 0, 0, 0, 3, 0, 0, 0, 3, 0, 0, 0, 4, 0, 0, 0, 0, 0, 0, 0, 0, 0, 0, 0, 0, 0,
-        0, 0, 0, 0, 0, 0, 0, 0, 0, 0,
-    ];
-    let ins = [
-        0, 0, 0, 0, 0, 0, 0, 0, 1, 0, 0, 0, 2, 0, 0, 0, 3, 0, 0, 0, 0, 0, 0, 0, 0, 0, 0, 0, 0, 0,
-        0, 0, 0, 0, 0, 0, 0, 0, 0, 0,
-    ];
-    let image = image_with(rt.alloc(), 0, 20, &outs, &ins)?;
+    let image = image_with(rt.alloc(), 0, 20, &OUTS, &INS)?;
     match graph_in(rt.alloc(), &image) {
         Some(graph) => {
             assert!(rt; graph.n == 5 && !graph.weighted);
@@ -372,6 +375,63 @@ fn a_weighted_graph_is_cut_out(rt: HostRuntime) -> Result<(), Fail> {
             );
         }
         None => assert!(rt; false),
+    }
+    Ok(())
+}
+
+/// The edges of that graph.
+fn edges(alloc: Global) -> Result<Edges, Memory> {
+    let pairs = Vec::from_slice(
+        alloc,
+        &[
+            Pair {
+                source: 0,
+                target: 1,
+                weight: 1,
+            },
+            Pair {
+                source: 0,
+                target: 2,
+                weight: 1,
+            },
+            Pair {
+                source: 1,
+                target: 3,
+                weight: 1,
+            },
+            Pair {
+                source: 2,
+                target: 3,
+                weight: 1,
+            },
+            Pair {
+                source: 3,
+                target: 4,
+                weight: 1,
+            },
+        ],
+    )?;
+    Ok(Edges::new(5, false, pairs))
+}
+
+#[test]
+fn edges_make_their_image(rt: HostRuntime) -> Result<(), Fail> {
+    let image = image_with(rt.alloc(), 0, 20, &OUTS, &INS)?;
+    match edges(rt.alloc()) {
+        Ok(edges) => match make_image(rt.alloc(), &edges) {
+            Ok(made) => assert!(rt; made == image),
+            Err(_) => assert!(rt; false),
+        },
+        Err(_) => assert!(rt; false),
+    }
+    Ok(())
+}
+
+#[test]
+fn pages_are_told_without_the_image(rt: HostRuntime) -> Result<(), Fail> {
+    match edges(rt.alloc()) {
+        Ok(edges) => assert_eq!(rt; image_pages(rt.alloc(), &edges), Ok(4)),
+        Err(_) => assert!(rt; false),
     }
     Ok(())
 }

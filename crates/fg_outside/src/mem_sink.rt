@@ -1,5 +1,5 @@
 // A sink in memory.
-ghost use Rattle.std.specs.Prelude.{◌≡◌, [], Some, IsOk};
+ghost use Rattle.std.specs.Prelude.{◌≡◌, [], Some, false, IsOk};
 
 use crate::Sink;
 use crate::fault_count::FaultCount;
@@ -7,7 +7,7 @@ use fg_base::Failed;
 use std::alloc::Global;
 
 /// A sink in memory, for tests. It tells the bytes written, of which a put takes all or none, and fails at the puts
-/// that it was told of when it was made and where its list can't grow. A flush never fails.
+/// that it was told of when it was made and where its list can't grow. A put keeps nothing back, and a flush never fails.
 #[derive(Drop)]
 pub struct MemSink {
     written: Vec<u8>,
@@ -47,6 +47,8 @@ impl MemSink {
 
 impl Sink for MemSink {
     ghost written = { λ sink. Some sink.written.items };
+
+    ghost keeps_back = { λ _. false };
 
     ghost faults = { λ sink. sink.faults.count };
 

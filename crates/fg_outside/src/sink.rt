@@ -1,5 +1,5 @@
 // A stream of bytes that go out.
-ghost use Rattle.std.specs.Prelude.{◌≡◌, ◌<◌, ◌≤◌, ℕ, List, Option, length, take, IfOk, OnOk, OnErr};
+ghost use Rattle.std.specs.Prelude.{◌≡◌, ◌<◌, ◌≤◌, ℕ, Bool, false, List, Option, length, take, IfOk, OnOk, OnErr};
 ghost use Rattle.fg_base.specs.Faults.{Counts};
 ghost use Rattle.fg_base.specs.Told.{grown, GrewByFirst};
 
@@ -9,6 +9,9 @@ use fg_base::Failed;
 pub trait Sink {
     /// The bytes that were written, where the sink tells them.
     ghost written: { Self → Option (List ℕ) };
+
+    /// Whether bytes that were put may still be here, not handed on.
+    ghost keeps_back: { Self → Bool };
 
     /// How often a call has failed.
     ghost faults: { Self → ℕ };
@@ -24,9 +27,10 @@ pub trait Sink {
 
         ensures counted { Counts (faults self.old) (faults self.new) result };
 
-    /// Hands on what the sink has gathered. Whoever writes last calls it, since what was written may still be kept back.
+    /// Hands on all that the sink has gathered. Whoever writes last calls it, since a put may keep its bytes back.
     fn flush(&mut self) -> Result<(), Failed>
         ensures written { written self.new ≡ written self.old }
+        ensures handed { OnOk result (keeps_back self.new ≡ false) }
         ensures counted { Counts (faults self.old) (faults self.new) result };
 }
 
@@ -59,6 +63,8 @@ mod tests {
 
     impl Sink for Narrow {
         ghost written = { λ sink. ⟦<MemSink as Sink>⟧.written sink.inner };
+
+        ghost keeps_back = { λ sink. ⟦<MemSink as Sink>⟧.keeps_back sink.inner };
 
         ghost faults = { λ sink. ⟦<MemSink as Sink>⟧.faults sink.inner };
 

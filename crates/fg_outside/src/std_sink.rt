@@ -1,5 +1,6 @@
 // A sink over standard output.
-ghost use Rattle.std.specs.Prelude.{◌≡◌, ◌≤◌, None, IfOk, length};
+ghost use Rattle.std.specs.Prelude.{◌≡◌, ◌≤◌, None, IfOk, length, nat_lt};
+ghost use Rattle.std.specs.Io.Buffered.{writer_buffer};
 ghost use Rattle.fg_base.specs.Faults.{Rose};
 
 use crate::Sink;
@@ -12,8 +13,9 @@ use std::io::{BufWriter, ErrorKind, Printer, Write};
 /// Bytes that are gathered before they are written.
 const GATHERED_BYTES: usize = 65_536;
 
-/// A sink over what the runtime prints to. It tells nothing but its count of faults, which rises at each error. What is
-/// put is gathered, and written when the room for it is full and at `flush`. After an error each further call fails.
+/// A sink over what the runtime prints to. It tells its count of faults, which rises at each error, and whether it still
+/// has gathered bytes, but not what was written. What is put is gathered, and written when the room for it is full and at
+/// `flush`. After an error each further call fails.
 #[derive(Drop)]
 pub struct StdSink<'a, P: Print> {
     out: BufWriter<Printer<'a, P>>,
@@ -48,6 +50,8 @@ impl<'a, P: Print> StdSink<'a, P> {
 
 impl<P: Print> Sink for StdSink<'_, P> {
     ghost written = { λ _. None };
+
+    ghost keeps_back = { λ sink. nat_lt 0 (length (writer_buffer sink.out)) };
 
     ghost faults = { λ sink. sink.faults.count };
 

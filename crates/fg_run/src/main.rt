@@ -6,9 +6,11 @@ ghost use Rattle.std.specs.Prelude.{◌≡◌, IfOk, length, vec_len};
 use fg_base::{Count, Memory};
 use fg_outside::{FileDrive, StdSink, StdSource};
 use fg_top::flash;
-use fg_top::words::drive_names;
+use fg_top::jobs::Job;
+use fg_top::words::{drive_names, input_name, job};
 use std::alloc::Global;
 use std::fs::File;
+use std::io::{Input, StdinLock};
 use std::process::ExitCode;
 use std::rt::Files;
 use std::{env, io};
@@ -24,13 +26,17 @@ fn main(rt: HostRuntime) -> ExitCode {
     let Ok(names) = drive_names(alloc, &words) else {
         return ExitCode::from(NO_MEMORY);
     };
-    let Ok(mut drives) = open_drives(&rt, alloc, &names) else {
+    let Ok(input) = input_name(alloc, &words) else {
+        return ExitCode::from(NO_MEMORY);
+    };
+    let builds = matches!(job(alloc, &words), Ok(Job::Build { .. }));
+    let Ok(mut drives) = open_drives(&rt, alloc, &names, builds) else {
         return ExitCode::from(NO_MEMORY);
     };
     let Ok(mut out) = StdSink::stdout(&rt, alloc) else {
         return ExitCode::from(NO_MEMORY);
     };
-    let mut input = StdSource::stdin(&rt);
+    let mut input = open_input(&rt, input);
     let mut tally = Count::new();
     let status = flash(
         &rt,
@@ -59,17 +65,29 @@ fn read_words(rt: &HostRuntime, alloc: Global) -> Result<Vec<String>, Memory> {
     }
 }
 
-/// The drives of these names, opened for reading alone.
+/// The drives of these names, opened for reading alone, or made where they are absent and opened for appending too.
 fn open_drives<R: Files<File = File>>(
     rt: &R,
     alloc: Global,
     names: &Vec<String>,
+    create: bool,
 ) -> Result<Vec<FileDrive>, Memory>
     ensures { IfOk result (λ drives. vec_len drives ≡ vec_len names.now) }
 {
     let mut drives = Vec::new(alloc);
     for name in names {
-        drives.push(FileDrive::named(rt, name.as_str(), false))?;
+        drives.push(FileDrive::named(rt, name.as_str(), create))?;
     }
     Ok(drives)
+}
+
+/// The file of this name as the input, or standard input where there is no name.
+fn open_input<R: Files<File = File> + Input<Reader = StdinLock<'static>>>(
+    rt: &R,
+    name: Option<String>,
+) -> StdSource {
+    match name {
+        Some(name) => StdSource::file(rt, name.as_str()),
+        None => StdSource::stdin(rt),
+    }
 }

@@ -27,7 +27,7 @@ pub fn wide_number_at(bytes: &[u8], place: usize) -> u64
 
 /// Writes the number into the 4 bytes from `place` on.
 #[tactic(auto, using(std::proofs::lemmas::List::take_rest))]
-pub(crate) fn put_number(bytes: &mut [u8], place: usize, number: u32)
+pub fn put_number(bytes: &mut [u8], place: usize, number: u32)
     requires { place + 4 ≤ length bytes.old }
     ensures { bytes.new ≡ take place bytes.old ++ (little_bytes 4 number ++ drop (place + 4) bytes.old) }
 {
@@ -36,7 +36,7 @@ pub(crate) fn put_number(bytes: &mut [u8], place: usize, number: u32)
 
 /// Writes the number into the 8 bytes from `place` on.
 #[tactic(auto, using(std::proofs::lemmas::List::take_rest))]
-pub(crate) fn put_wide_number(bytes: &mut [u8], place: usize, number: u64)
+pub fn put_wide_number(bytes: &mut [u8], place: usize, number: u64)
     requires { place + 8 ≤ length bytes.old }
     ensures { bytes.new ≡ take place bytes.old ++ (little_bytes 8 number ++ drop (place + 8) bytes.old) }
 {

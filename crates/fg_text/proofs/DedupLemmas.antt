@@ -1,73 +1,43 @@
 -- Sorted pairs of which the first of each place is kept are merged.
-use Rattle.std.proofs.Common.{◌≡◌, ℕ, ◌<◌, ◌≤◌, ◌∷◌, ◌∙◌, ◌==◌, true, false, List, [], All, Any, Contains, get_or, length, subst, sym, inl, inr, arith, zero, suc}
+use Rattle.std.proofs.Common.{◌≡◌, ◌∷◌, ◌==◌, true, false, List, [], All, Any, Contains, subst, sym, inl, inr, arith, suc}
+use Rattle.std.specs.Prelude.{AllPairs}
 use Rattle.std.specs.List.{dedup, dedup_from}
-use Rattle.std.specs.List.Sorted.{IsNonDecreasingBy}
-use Rattle.std.proofs.lemmas.Bool.{cases_Bool, cases_lt, and_parts, and_cases, eqb-true, eqb-false}
+use Rattle.std.proofs.lemmas.Bool.{cases_Bool, and_parts, and_cases, eqb-true, eqb-false}
 use Rattle.std.proofs.lemmas.List.Elements.{All-cons, All-head, All-nil, All-tail, All-contains, All-weaker}
+use Rattle.std.proofs.lemmas.List.Kept.{AllPairs-cons}
 use Rattle.fg_model.specs.declared.edges.Pair.{Pair}
 use Rattle.fg_model.specs.Edges.{ComesBefore}
-use Rattle.fg_text.specs.Merged.{IsMerged, IsNoMore}
-use Rattle.fg_text.specs.Rank.{IsRanked, has_place_of, rank_of}
-use Rattle.fg_text.proofs.OrderLemmas.{contains_here, contains_there, contains_cases, any_here, any_there, any_weaker, ascends_cons, ascends_nil}
+use Rattle.fg_text.specs.Merged.{IsMerged, IsNoMore, has_place_of}
+use Rattle.fg_text.proofs.OrderLemmas.{NoLater, before_same, before_trans, not_before_itself, contains_here, contains_there, contains_cases, any_here, any_there, any_weaker, ascends_cons, ascends_nil}
 use Rattle.fg_text.proofs.MergedLemmas.{no_more_itself, no_more_trans}
 
--- ascending ranks, from the left
-abbrev Rises : Pair → List Pair → Type 0
-Rises pair pairs = All (λ other. rank_of pair ≤ rank_of other) pairs
+-- the first pair of a sorted list, and the rest
+no_later_head : (pair : Pair) (pairs : List Pair) → AllPairs NoLater (pair ∷ pairs) → All (NoLater pair) pairs
+no_later_head pair pairs up = λ k d lt. up 0 (suc k) d (omega arith) (omega arith)
 
-rises_head : (pair : Pair) (pairs : List Pair) → IsNonDecreasingBy rank_of (pair ∷ pairs) → Rises pair pairs
-rises_head pair pairs up = λ k d lt. up 0 (suc k) d (omega arith) (omega arith)
+no_later_tail : (pair : Pair) (pairs : List Pair) → AllPairs NoLater (pair ∷ pairs) → AllPairs NoLater pairs
+no_later_tail pair pairs up = λ i j d lt in'. up (suc i) (suc j) d (omega arith) (omega arith)
 
-rises_tail : (pair : Pair) (pairs : List Pair) → IsNonDecreasingBy rank_of (pair ∷ pairs) → IsNonDecreasingBy rank_of pairs
-rises_tail pair pairs up = λ i j d le in'. up (suc i) (suc j) d (omega arith) (omega arith)
-
-rises_cons : (pair : Pair) (pairs : List Pair) → Rises pair pairs → IsNonDecreasingBy rank_of pairs →
-    (i j : ℕ) (d : Pair) → i ≤ j → j < length (pair ∷ pairs) → rank_of (get_or (pair ∷ pairs) i d) ≤ rank_of (get_or (pair ∷ pairs) j d)
-rises_cons pair pairs all up zero zero d le in' = omega arith
-rises_cons pair pairs all up zero (suc j) d le in' = all j d (omega arith)
-rises_cons pair pairs all up (suc i) zero d le in' = absurd (omega arith)
-rises_cons pair pairs all up (suc i) (suc j) d le in' = up i j d (omega arith) (omega arith)
-
--- a pair of a place that comes first weighs no more
-first_is_least : (first later : Pair) → has_place_of later first ≡ true → rank_of first ≤ rank_of later → IsNoMore later first
-first_is_least first later same le =
+-- of one place the first weighs no more
+first_is_least : (first later : Pair) → has_place_of later first ≡ true → NoLater first later → IsNoMore later first
+first_is_least first later same (inr no_more) = no_more
+first_is_least first later same (inl before) =
     let both = and_parts (later.source == first.source) (later.target == first.target) same in
-    let source = eqb-true later.source first.source both.0 in
-    let target = eqb-true later.target first.target both.1 in
-    record { source = sym source; target = sym target; weight = omega arith }
+    absurd (not_before_itself first later (record { source = sym (eqb-true later.source first.source both.0); target = sym (eqb-true later.target first.target both.1) }) before)
 
--- a pair of another place that comes first comes before
-first_is_before : (first later : Pair) → IsRanked first → IsRanked later → has_place_of later first ≡ false → rank_of first ≤ rank_of later → ComesBefore first later
-first_is_before first later ranked ranked' other le =
-    elim (cases_lt first.source later.source) [
-      | inl lt ↦ inl lt
-      | inr ge ↦
-          let source : first.source ≡ later.source = omega (arith, ranked.target, ranked.weight, ranked'.target, ranked'.weight) in
-          elim (cases_lt first.target later.target) [
-            | inl lt ↦ inr (source, lt)
-            | inr ge' ↦
-                let target : first.target ≡ later.target = omega (arith, ranked.weight, ranked'.weight, source) in
-                elim (and_cases (later.source == first.source) (later.target == first.target) other) [
-                  | inl ne ↦ absurd (eqb-false later.source first.source ne (sym source))
-                  | inr ne ↦ absurd (eqb-false later.target first.target ne (sym target))
-                ]
-          ]
+-- of two places the first comes before
+first_is_before : (first later : Pair) → has_place_of later first ≡ false → NoLater first later → ComesBefore first later
+first_is_before first later other (inl before) = before
+first_is_before first later other (inr no_more) =
+    elim (and_cases (later.source == first.source) (later.target == first.target) other) [
+      | inl ne ↦ absurd (eqb-false later.source first.source ne (sym no_more.source))
+      | inr ne ↦ absurd (eqb-false later.target first.target ne (sym no_more.target))
     ]
 
--- and before whatever has no lesser rank
-before_and_rising : (first between later : Pair) → IsRanked between → IsRanked later → ComesBefore first between → rank_of between ≤ rank_of later → ComesBefore first later
-before_and_rising first between later ranked ranked' before le =
-    let no_less : between.source ≤ later.source = omega (arith, ranked.target, ranked.weight, ranked'.target, ranked'.weight) in
-    elim before [
-      | inl lt ↦ inl (omega arith)
-      | inr both ↦
-          elim (cases_lt between.source later.source) [
-            | inl lt ↦ inl (omega (arith, both.0))
-            | inr ge ↦
-                let source : between.source ≡ later.source = omega arith in
-                inr (both.0 ∙ source, omega (arith, both.1, ranked.weight, ranked'.weight, source))
-          ]
-    ]
+-- and before whatever stands no earlier
+before_all : (first between later : Pair) → ComesBefore first between → NoLater between later → ComesBefore first later
+before_all first between later before (inl before') = before_trans first between later before before'
+before_all first between later before (inr no_more) = before_same first between later (record { source = no_more.source; target = no_more.target }) before
 
 -- one pair alone
 alone : (pair : Pair) → IsMerged (pair ∷ []) (pair ∷ [])
@@ -108,28 +78,24 @@ kept_first first rest kept before is =
           (All-weaker (λ other. Any (IsNoMore other) kept) P (λ other any. any_there (IsNoMore other) first kept any) rest is.least);
     }
 
-dedup_from_merges : (first : Pair) (rest : List Pair) → IsNonDecreasingBy rank_of (first ∷ rest) → All IsRanked (first ∷ rest) → IsMerged (first ∷ rest) (dedup_from has_place_of first rest)
-dedup_from_merges first [] up ranked = alone first
-dedup_from_merges first (later ∷ rest) up ranked =
-    let first_ranked = All-head IsRanked first (later ∷ rest) ranked in
-    let ranked' = All-tail IsRanked first (later ∷ rest) ranked in
-    let later_ranked = All-head IsRanked later rest ranked' in
-    let rest_ranked = All-tail IsRanked later rest ranked' in
-    let up' = rises_tail first (later ∷ rest) up in
-    let le : rank_of first ≤ rank_of later = All-head (λ other. rank_of first ≤ rank_of other) later rest (rises_head first (later ∷ rest) up) in
-    let rest_up = rises_head later rest up' in
+dedup_from_merges : (first : Pair) (rest : List Pair) → AllPairs NoLater (first ∷ rest) → IsMerged (first ∷ rest) (dedup_from has_place_of first rest)
+dedup_from_merges first [] up = alone first
+dedup_from_merges first (later ∷ rest) up =
+    let up' = no_later_tail first (later ∷ rest) up in
+    let from_first = no_later_head first (later ∷ rest) up in
+    let no_later : NoLater first later = All-head (NoLater first) later rest from_first in
+    let from_later = no_later_head later rest up' in
     elim (cases_Bool (has_place_of later first)) [
       | inl same ↦
-          let from_first : Rises first rest = All-tail (λ other. rank_of first ≤ rank_of other) later rest (rises_head first (later ∷ rest) up) in
-          let far : IsNonDecreasingBy rank_of (first ∷ rest) = rises_cons first rest from_first (rises_tail later rest up') in
-          rw same (left_out first later rest (dedup_from has_place_of first rest) (first_is_least first later same le) (dedup_from_merges first rest far (All-cons IsRanked first rest first_ranked rest_ranked)))
+          let without : AllPairs NoLater (first ∷ rest) = AllPairs-cons NoLater first rest (All-tail (NoLater first) later rest from_first) (no_later_tail later rest up') in
+          rw same (left_out first later rest (dedup_from has_place_of first rest) (first_is_least first later same no_later) (dedup_from_merges first rest without))
       | inr other ↦
-          let before : ComesBefore first later = first_is_before first later first_ranked later_ranked other le in
-          let far : All (ComesBefore first) rest = λ k d lt. before_and_rising first later (get_or rest k d) later_ranked (rest_ranked k d lt) before (rest_up k d lt) in
-          rw other (kept_first first (later ∷ rest) (dedup_from has_place_of later rest) (All-cons (ComesBefore first) later rest before far) (dedup_from_merges later rest up' ranked'))
+          let before : ComesBefore first later = first_is_before first later other no_later in
+          let far : All (ComesBefore first) rest = All-weaker (NoLater later) (ComesBefore first) (λ pair behind. before_all first later pair before behind) rest from_later in
+          rw other (kept_first first (later ∷ rest) (dedup_from has_place_of later rest) (All-cons (ComesBefore first) later rest before far) (dedup_from_merges later rest up'))
     ]
 
 -- sorted pairs
-pub dedup_merges : (pairs : List Pair) → IsNonDecreasingBy rank_of pairs → All IsRanked pairs → IsMerged pairs (dedup has_place_of pairs)
-dedup_merges [] up ranked = record { ascending = ascends_nil; among = All-nil (Contains []); least = All-nil (λ pair. Any (IsNoMore pair) []) }
-dedup_merges (first ∷ rest) up ranked = dedup_from_merges first rest up ranked
+pub dedup_merges : (pairs : List Pair) → AllPairs NoLater pairs → IsMerged pairs (dedup has_place_of pairs)
+dedup_merges [] up = record { ascending = ascends_nil; among = All-nil (Contains []); least = All-nil (λ pair. Any (IsNoMore pair) []) }
+dedup_merges (first ∷ rest) up = dedup_from_merges first rest up

@@ -11,3 +11,4 @@ pub mod PiecesLemmas
 pub mod ReadLemmas
 pub mod ReaderLemmas
 pub mod RefusedLemmas
+pub mod SortedLemmas

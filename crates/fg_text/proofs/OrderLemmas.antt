@@ -6,12 +6,16 @@ use Rattle.std.proofs.lemmas.List.Elements.{All-head, All-tail, All-contains}
 use Rattle.std.proofs.lemmas.List.Kept.{AllPairs-cons}
 use Rattle.fg_model.specs.declared.edges.Pair.{Pair}
 use Rattle.fg_model.specs.Edges.{Ascends, ComesBefore}
-use Rattle.fg_text.specs.Merged.{comes_before}
+use Rattle.fg_text.specs.Merged.{IsNoMore, comes_before}
 
 -- two pairs are of the same vertices
 pub record SamePlace (one other : Pair) : Type 0 where
   pub source : one.source ≡ other.source
   pub target : one.target ≡ other.target
+
+-- a pair stands no later than another: by source, at one source by target, and at one place by weight
+abbrev pub NoLater : Pair → Pair → Type 0
+NoLater one other = ComesBefore one other ⊎ IsNoMore other one
 
 -- how two pairs stand, and what the tests say of it
 pub data Order (one other : Pair) : Type 0 where

@@ -52,22 +52,23 @@ refused_later first between old middle new start before after most taken refusal
     )
 
 -- all taken that a text may have, and then more or a fault
-pub end_refused : (first last : Reader) (old middle new : Option (List ℕ)) (start before after : ℕ) (taken : List ℕ) (refusal : Refusal) → Took first last old middle taken →
-    before ≡ start → length taken ≡ MAX_TEXT_BYTES → EndRefused middle new before after refusal → PiecesRefused first old new start after refusal
-end_refused first last old middle new start before after taken InputFault took kept full refused =
+pub end_refused : (first last : Reader) (old middle new : Option (List ℕ)) (start before after most : ℕ) (taken : List ℕ) (refusal : Refusal) → Took first last old middle taken →
+    before ≡ start → length taken ≡ MAX_TEXT_BYTES → most ≤ 4096 → EndRefused most middle new before after refusal → PiecesRefused first old new start after refusal
+end_refused first last old middle new start before after most taken InputFault took kept full short refused =
     let P : ℕ → Type 0 = λ count. Rose count after in
     (omega (arith, refused.0), subst P kept refused.1, (taken, took.moved ∙ ap (led_by taken) (sym refused.2)))
-end_refused first last old middle new start before after taken TextTooLong took kept full refused =
+end_refused first last old middle new start before after most taken TextTooLong took kept full short refused =
     let more = refused.1 in (
       refused.0 ∙ kept,
       record {
         taken = taken;
         more = more.0;
-        moved = took.moved ∙ ap (led_by taken) more.2 ∙ led_by_twice taken more.0 new;
+        moved = took.moved ∙ ap (led_by taken) more.3 ∙ led_by_twice taken more.0 new;
         full = full;
         over = more.1;
+        few = omega (arith, more.2);
         edges = last.gathered;
         reads = ap (reads_on false first) (sym (append-nil taken)) ∙ sym (took.reads false []) ∙ reads_none last;
       },
     )
-end_refused first last old middle new start before after taken refusal took kept full refused = absurd refused
+end_refused first last old middle new start before after most taken refusal took kept full short refused = absurd refused

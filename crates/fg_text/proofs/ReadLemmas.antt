@@ -59,7 +59,10 @@ overlong undirected old new is =
 pub read_refused : (undirected : Bool) (old new : Option (List ℕ)) (before after : ℕ) (refusal : Refusal) → PiecesRefused (start_of undirected) old new before after refusal → ReadRefused undirected old new before after refusal
 read_refused undirected old new before after Memory refused = refused.0
 read_refused undirected old new before after InputFault refused = (refused.0, refused.1)
-read_refused undirected old new before after TextTooLong refused = (refused.0, overlong undirected old new refused.1)
+read_refused undirected old new before after TextTooLong refused =
+    let is = refused.1 in
+    let soon : length (is.taken ++ is.more) ≤ MAX_TEXT_BYTES + 4096 = omega (arith, length-append is.taken is.more, is.full, is.few) in
+    (refused.0, overlong undirected old new is, (is.taken ++ is.more, soon, is.moved))
 read_refused undirected old new before after (BadLine line) refused =
     let at = refused.1 in (refused.0, refused_piece undirected old new line (BadLine line) at.before at.piece at.moved at.short at.fits at.refused)
 read_refused undirected old new before after (IdTooLarge line) refused =

@@ -4,7 +4,6 @@ pub mod Line
 pub mod Made
 pub mod Merged
 pub mod Pieces
-pub mod Rank
 pub mod Read
 pub mod Reader
 pub mod Text

@@ -35,3 +35,7 @@ pub record IsMerged (pairs kept : List Pair) : Type 0 where
   pub ascending : Ascends kept
   pub among : All (Contains pairs) kept
   pub least : All (λ pair. Any (IsNoMore pair) kept) pairs
+
+-- two pairs are of the same vertices
+abbrev pub has_place_of : Pair → Pair → Bool
+has_place_of one other = (one.source == other.source) && (one.target == other.target)

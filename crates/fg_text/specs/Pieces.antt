@@ -55,6 +55,7 @@ pub record IsOverlong (reader : Reader) (old new : Option (List ℕ)) : Type 0 w
   pub moved : old ≡ led_by (taken ++ more) new
   pub full : length taken ≡ MAX_TEXT_BYTES
   pub over : 0 < length more
+  pub few : length more ≤ 4096
   pub edges : EdgeList
   pub reads : reads_on false reader taken ≡ Ok edges
 
@@ -64,8 +65,8 @@ PiecesRefused reader old new before after InputFault = (before ≤ after) × Ros
 PiecesRefused reader old new before after TextTooLong = (after ≡ before) × IsOverlong reader old new
 PiecesRefused reader old new before after refusal = (after ≡ before) × RefusedPiece reader old new refusal
 
--- why what comes behind the longest text isn't its end: a fault of the source, or more bytes
-abbrev pub EndRefused : Option (List ℕ) → Option (List ℕ) → ℕ → ℕ → Refusal → Type 0
-EndRefused old new before after InputFault = (before ≤ after) × Rose before after × (new ≡ old)
-EndRefused old new before after TextTooLong = (after ≡ before) × ((more : List ℕ) × (0 < length more) × (old ≡ led_by more new))
-EndRefused old new before after refusal = ⊥
+-- why what comes behind the longest text isn't its end: a fault of the source, or more bytes, of which so many were taken at most
+abbrev pub EndRefused : ℕ → Option (List ℕ) → Option (List ℕ) → ℕ → ℕ → Refusal → Type 0
+EndRefused most old new before after InputFault = (before ≤ after) × Rose before after × (new ≡ old)
+EndRefused most old new before after TextTooLong = (after ≡ before) × ((more : List ℕ) × (0 < length more) × (length more ≤ most) × (old ≡ led_by more new))
+EndRefused most old new before after refusal = ⊥

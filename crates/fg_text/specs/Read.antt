@@ -1,7 +1,8 @@
 -- How reading the edges of a source ends.
-use Rattle.std.specs.Prelude.{◌≡◌, ℕ, ◌<◌, ◌≤◌, ◌⊎◌, ◌++◌, Bool, Err, IfSome, List, Option, length}
+use Rattle.std.specs.Prelude.{◌≡◌, ℕ, ◌+◌, ◌<◌, ◌≤◌, ◌⊎◌, ◌++◌, Bool, Err, IfSome, List, Option, length}
 use Rattle.fg_base.specs.Faults.{Rose}
 use Rattle.fg_base.specs.Told.{led_by}
+use Rattle.fg_base.specs.declared.limits.TheConstants.{MAX_TEXT_BYTES}
 use Rattle.fg_base.specs.declared.refusal.Refusal.{Refusal}
 use Rattle.fg_base.specs.declared.refusal.Refusal.TheVariants.{Memory, InputFault, BadLine, IdTooLarge, TooManyEdges, TextTooLong}
 use Rattle.fg_text.specs.Pieces.{IsAtEnd}
@@ -27,6 +28,10 @@ pub record RefusesText (undirected : Bool) (old new : Option (List ℕ)) (line :
   pub says : SaysRefusal undirected old refusal
   pub stops : StopsBehind line old new
 
+-- no more than a piece was taken beyond the bytes that a text may have
+abbrev pub StopsSoon : Option (List ℕ) → Option (List ℕ) → Type 0
+StopsSoon old new = (taken : List ℕ) × (length taken ≤ MAX_TEXT_BYTES + 4096) × (old ≡ led_by taken new)
+
 -- why a text wasn't read: want of memory, a fault of the source, whose count rose, or what the text says
 abbrev pub ReadRefused : Bool → Option (List ℕ) → Option (List ℕ) → ℕ → ℕ → Refusal → Type 0
 ReadRefused undirected old new before after Memory = after ≡ before
@@ -34,5 +39,5 @@ ReadRefused undirected old new before after InputFault = (before ≤ after) × R
 ReadRefused undirected old new before after (BadLine line) = (after ≡ before) × RefusesText undirected old new line (BadLine line)
 ReadRefused undirected old new before after (IdTooLarge line) = (after ≡ before) × RefusesText undirected old new line (IdTooLarge line)
 ReadRefused undirected old new before after (TooManyEdges line) = (after ≡ before) × RefusesText undirected old new line (TooManyEdges line)
-ReadRefused undirected old new before after TextTooLong = (after ≡ before) × SaysRefusal undirected old TextTooLong
+ReadRefused undirected old new before after TextTooLong = (after ≡ before) × SaysRefusal undirected old TextTooLong × StopsSoon old new
 ReadRefused undirected old new before after refusal = ⊥

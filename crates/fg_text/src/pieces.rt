@@ -43,7 +43,7 @@ fn expect_end<S: Source>(input: &mut S, into: &mut [u8]) -> Result<(), Refusal>
     ensures end { OnOk result (IsAtEnd (S.left input.new)) }
     ensures left { OnOk result (S.left input.new ≡ S.left input.old) }
     ensures kept { OnOk result (S.faults input.new ≡ S.faults input.old) }
-    ensures refused { IfErr result (EndRefused (S.left input.old) (S.left input.new) (S.faults input.old) (S.faults input.new)) }
+    ensures refused { IfErr result (EndRefused (length into.old) (S.left input.old) (S.left input.new) (S.faults input.old) (S.faults input.new)) }
 {
     let Ok(count) = input.take(into) else {
         return Err(Refusal::InputFault);

@@ -1,5 +1,6 @@
 //! Whole texts: what they say, in pieces of every size, and what a source is left with; the generator's text and edges.
 
+use crate::generator::Generator;
 use crate::{generate, generate_edges, read_edges};
 use fg_base::Refusal;
 use fg_model::{Edges, Pair};
@@ -140,6 +141,22 @@ fn a_source_that_fails_is_an_input_fault(rt: HostRuntime) -> Result<(), Fail> {
         let line = shown(alloc, &read)?;
         assert_eq!(rt; line.as_str(), want, "call {fails} fails");
         assert_eq!(rt; source.faults(), faults, "call {fails} fails");
+    }
+    Ok(())
+}
+
+#[test]
+fn generates_the_words_of_a_start(rt: HostRuntime) -> Result<(), Fail> {
+    // Modulo this number each of these words is itself.
+    let mut generator = Generator::new(42, u32::MAX);
+    for (source, target) in [
+        (0xa15c_02b7, 0x7b47_f409),
+        (0xba1d_3330, 0x83d2_f293),
+        (0xbfa4_784b, 0xcbed_606e),
+    ] {
+        let edge = generator.next_edge();
+        assert_eq!(rt; (edge.source, edge.target), (source, target));
+        assert!(rt; edge.weight.is_none());
     }
     Ok(())
 }

@@ -1,5 +1,5 @@
 -- Ends of a job, put together from what its stages did.
-use Rattle.std.proofs.Common.{◌≡◌, ◌∙◌, ℕ, zero, suc, ◌+◌, Option, None, Some, List, [], ◌∷◌, ◌++◌, length, take, refl, sym, ap, subst, inl, inr, append_assoc}
+use Rattle.std.proofs.Common.{◌≡◌, ◌∙◌, ℕ, zero, suc, ◌+◌, Bool, Option, None, Some, List, [], ◌∷◌, ◌++◌, length, take, refl, sym, ap, subst, inl, inr, append_assoc}
 use Rattle.std.proofs.Math.Seq.{take-append-add}
 use Rattle.std.specs.List.{concat}
 use Rattle.fg_base.specs.Faults.{Rose}
@@ -11,8 +11,8 @@ use Rattle.fg_base.proofs.ToldLemmas.{grown-grown}
 use Rattle.fg_outside.specs.Drives.{NoneRose, RoseFirst}
 use Rattle.fg_outside.proofs.DriveLemmas.{EachSame-more, RoseFirst-after}
 use Rattle.fg_report.specs.Refusals.{refusal_line}
-use Rattle.fg_top.specs.Ends.{Ends, IsCause, IsCutShort, IsOutcome, IsWritten, Output, output_between}
-use Rattle.fg_top.specs.Outcome.{Close, Outcome}
+use Rattle.fg_top.specs.Ends.{Ends, EndsAlone, IsCause, IsCutShort, IsOutcome, IsWritten, Output, output_between}
+use Rattle.fg_top.specs.Outcome.{Close, Done, Outcome, at_once}
 
 -- an outcome with these texts before its own
 abbrev pub behind : List (List ℕ) → Outcome → Outcome
@@ -27,14 +27,14 @@ led_texts first lines last text is =
     ap (λ rest. concat first ++ rest) is ∙ sym (append_assoc (concat first) (concat lines) last) ∙ ap (λ whole. whole ++ last) (sym (concat-append first lines))
 
 -- a text that was written behind another
-pub written_behind : (f0 f1 f2 : ℕ) (t0 t1 t2 : Option (List ℕ)) (end : Option Refusal) (first text : List ℕ) (status : ℕ) →
-    f1 ≡ f0 → t1 ≡ grown t0 first → IsWritten (output_between f1 f2 t1 t2) end text status →
-    IsWritten (output_between f0 f2 t0 t2) end (first ++ text) status
-written_behind f0 f1 f2 t0 t1 t2 end first text status kept grew written =
+pub written_behind : (f0 f1 f2 : ℕ) (t0 t1 t2 : Option (List ℕ)) (back : Bool) (end : Option Refusal) (first text : List ℕ) (status : ℕ) →
+    f1 ≡ f0 → t1 ≡ grown t0 first → IsWritten (output_between f1 f2 t1 t2 back) end text status →
+    IsWritten (output_between f0 f2 t0 t2 back) end (first ++ text) status
+written_behind f0 f1 f2 t0 t1 t2 back end first text status kept grew written =
     let From : ℕ → Type 0 = λ old. Rose old f2 in
     let After : Option (List ℕ) → Type 0 = λ told. GrewByFirst text told t2 in
     elim written [
-      | inl whole ↦ inl (whole.0 ∙ kept, whole.1 ∙ ap (λ told. grown told text) grew ∙ grown-grown t0 first text, whole.2)
+      | inl whole ↦ inl (whole.0 ∙ kept, whole.1 ∙ ap (λ told. grown told text) grew ∙ grown-grown t0 first text, whole.2, whole.3)
       | inr failed ↦ inr (subst From kept failed.0, grew_on first text t0 t2 (subst After grew failed.1), failed.2)
     ]
 
@@ -97,38 +97,41 @@ cause_in_memory faults olds news comes other more kept (Some refusal) text cause
     (kept, outcome_behind comes other [] more _ (refusal_line refusal) text cause.1)
 
 -- the end of a stage that has no drives is the same end where there are some
-pub ends_in_memory : {D : Type 0} (faults : D → ℕ) (olds news : List D) (comes other : Outcome → Type 0) (output : Output) (status : ℕ) →
-    ((outcome : Outcome) → comes outcome → other outcome) → NoneRose faults olds news →
-    Ends {D = ℕ} (λ drive. drive) [] [] comes output status → Ends faults olds news other output status
-ends_in_memory faults olds news comes other output status more kept ends = record {
+pub ends_in_memory : {D : Type 0} (faults : D → ℕ) (olds news : List D) (comes other : Outcome → Type 0) (leaves : Option Refusal → Type 0) (output : Output) (status : ℕ) →
+    ((outcome : Outcome) → comes outcome → other outcome) → NoneRose faults olds news → ((end : Option Refusal) → leaves end) →
+    EndsAlone comes output status → Ends faults olds news other leaves output status
+ends_in_memory faults olds news comes other leaves output status more kept left ends = record {
   end = ends.end;
   text = ends.text;
   cause = cause_in_memory faults olds news comes other more kept ends.end ends.text ends.cause;
+  left = left ends.end;
   written = ends.written;
 }
 
 -- the end of a later stage is the job's end
-pub ends_behind : {D : Type 0} (faults : D → ℕ) (olds betweens news : List D) (comes other : Outcome → Type 0) (first : List (List ℕ))
-    (f0 f1 f2 : ℕ) (t0 t1 t2 : Option (List ℕ)) (status : ℕ) →
-    ((outcome : Outcome) → comes outcome → other (behind first outcome)) → NoneRose faults olds betweens →
-    f1 ≡ f0 → t1 ≡ grown t0 (concat first) → Ends faults betweens news comes (output_between f1 f2 t1 t2) status →
-    Ends faults olds news other (output_between f0 f2 t0 t2) status
-ends_behind faults olds betweens news comes other first f0 f1 f2 t0 t1 t2 status more kept same grew ends = record {
+pub ends_behind : {D : Type 0} (faults : D → ℕ) (olds betweens news : List D) (comes other : Outcome → Type 0) (own leaves : Option Refusal → Type 0) (first : List (List ℕ))
+    (f0 f1 f2 : ℕ) (t0 t1 t2 : Option (List ℕ)) (back : Bool) (status : ℕ) →
+    ((outcome : Outcome) → comes outcome → other (behind first outcome)) → NoneRose faults olds betweens → ((end : Option Refusal) → leaves end) →
+    f1 ≡ f0 → t1 ≡ grown t0 (concat first) → Ends faults betweens news comes own (output_between f1 f2 t1 t2 back) status →
+    Ends faults olds news other leaves (output_between f0 f2 t0 t2 back) status
+ends_behind faults olds betweens news comes other own leaves first f0 f1 f2 t0 t1 t2 back status more kept left same grew ends = record {
   end = ends.end;
   text = concat first ++ ends.text;
   cause = cause_behind faults olds betweens news comes other first more kept ends.end ends.text ends.cause;
-  written = written_behind f0 f1 f2 t0 t1 t2 ends.end (concat first) ends.text status same grew ends.written;
+  left = left ends.end;
+  written = written_behind f0 f1 f2 t0 t1 t2 back ends.end (concat first) ends.text status same grew ends.written;
 }
 
 -- a job that ends at once where a put fails: some first part of its first texts was written
-pub ends_given_up : {D : Type 0} (faults : D → ℕ) (olds news : List D) (comes : Outcome → Type 0) (outcome : Outcome) (count : ℕ)
-    (f0 f1 : ℕ) (t0 t1 : Option (List ℕ)) (status : ℕ) → comes outcome → Rose f0 f1 →
+pub ends_given_up : {D : Type 0} (faults : D → ℕ) (olds news : List D) (comes : Outcome → Type 0) (leaves : Option Refusal → Type 0) (outcome : Outcome) (count : ℕ)
+    (f0 f1 : ℕ) (t0 t1 : Option (List ℕ)) (back : Bool) (status : ℕ) → comes outcome → leaves (Some Refusal.Memory) → Rose f0 f1 →
     GrewByFirst (concat (take count outcome.lines)) t0 t1 → status ≡ 4 →
-    Ends faults olds news comes (output_between f0 f1 t0 t1) status
-ends_given_up faults olds news comes outcome count f0 f1 t0 t1 status is rose grew failed = record {
+    Ends faults olds news comes leaves (output_between f0 f1 t0 t1 back) status
+ends_given_up faults olds news comes leaves outcome count f0 f1 t0 t1 back status is left rose grew failed = record {
   end = Some Refusal.Memory;
   text = concat (take count outcome.lines) ++ refusal_line Refusal.Memory;
   cause = record { outcome = outcome; is_one = is; count = count; text_is = refl };
+  left = left;
   written = inr (rose, grew_before (concat (take count outcome.lines)) (refusal_line Refusal.Memory) t0 t1 grew, failed);
 }
 
@@ -158,6 +161,17 @@ refusal_status (Refusal.BadEdge edge) is = cc
 pub refused_status : (output : Output) (refusal : Refusal) (text : List ℕ) (status : ℕ) → IsWritten output (Some refusal) text status → status ≡ 0 → ⊥
 refused_status output refusal text status written is_zero =
     elim written [
-      | inl whole ↦ refusal_status refusal (sym whole.2 ∙ is_zero)
+      | inl whole ↦ refusal_status refusal (sym whole.3 ∙ is_zero)
       | inr failed ↦ let four : ◌≡◌ {A = ℕ} 4 0 = sym failed.2 ∙ is_zero in cc
     ]
+
+-- a job that is done, whose whole text comes at once
+pub ends_done : {D : Type 0} (faults : D → ℕ) (olds news : List D) (comes : Outcome → Type 0) (leaves : Option Refusal → Type 0) (text : List ℕ) (output : Output) (status : ℕ) →
+    NoneRose faults olds news → comes (at_once (Done text)) → leaves None → IsWritten output None text status → Ends faults olds news comes leaves output status
+ends_done faults olds news comes leaves text output status kept is left written = record {
+  end = None;
+  text = text;
+  cause = (kept, record { last = text; is_outcome = record { outcome = at_once (Done text); is_one = is; closes = refl; text_is = refl } });
+  left = left;
+  written = written;
+}

@@ -1,5 +1,5 @@
 -- A flush behind a text that was written.
-use Rattle.std.proofs.Common.{◌≡◌, Option, List, ℕ, Result, Ok, Err, OnErr, length, take, ap, sym, ◌∙◌}
+use Rattle.std.proofs.Common.{◌≡◌, Option, List, ℕ, Result, Ok, Err, OnErr, length, ap, sym, ◌∙◌}
 use Rattle.std.proofs.Math.Seq.{take-length}
 use Rattle.fg_base.specs.Told.{grown, GrewByFirst}
 

@@ -1,5 +1,5 @@
 -- A job, by what opening its drives and its run did.
-use Rattle.std.proofs.Common.{◌≡◌, ◌∙◌, ℕ, Option, None, Some, IfSome, Result, Ok, List, [], ◌∷◌, refl, sym, ap, subst, inl, inr}
+use Rattle.std.proofs.Common.{◌≡◌, ◌∙◌, ◌<◌, ℕ, Bool, false, Option, None, Some, IfSome, Result, Ok, List, [], ◌∷◌, nat_le, refl, sym, ap, subst, inl, inr}
 use Rattle.std.proofs.lemmas.List.{append-nil}
 use Rattle.std.proofs.lemmas.Option.{IfSome_then}
 use Rattle.fg_base.specs.Faults.{Rose}
@@ -12,25 +12,25 @@ use Rattle.fg_image.specs.declared.header.Header.{Header}
 use Rattle.fg_model.specs.declared.graph.Graph.{Graph}
 use Rattle.fg_model.specs.Run.{Run}
 use Rattle.fg_outside.specs.declared.drive.Read.{Read}
-use Rattle.fg_outside.specs.Drives.{LogsGrew, LogsGrewBy, LogsGrewByFirst, NoneRose}
+use Rattle.fg_outside.specs.Drives.{DriveRead, LogsGrew, LogsGrewBy, LogsGrewByFirst, NoneRose}
 use Rattle.fg_outside.proofs.DriveLemmas.{EachDrive-same, LogsGrew-more, LogsGrewBy-none, LogsGrewByFirst-before, LogsGrewByFirst-more}
 use Rattle.fg_report.specs.Refusals.{refusal_line}
 use Rattle.fg_top.specs.declared.jobs.Wish.{Wish}
-use Rattle.fg_top.specs.Ends.{Ends, IsCause, IsWritten, output_between}
-use Rattle.fg_top.specs.Outcome.{Done, Outcome, WishComesTo, at_once, head_of, outcome_of, rules_of, run_on, run_outcome}
-use Rattle.fg_top.specs.Reads.{IsAskedBy, RunReads, RunReadsAll, image_reads_of, ref_reads}
+use Rattle.fg_top.specs.Ends.{Ends, EndsAlone, IsCause, IsWritten, output_between}
+use Rattle.fg_top.specs.Outcome.{Done, Outcome, WishComesTo, at_once, head_of, outcome_of, rules_of, run_on, run_outcome, source_of}
+use Rattle.fg_top.specs.Reads.{IsAskedBy, RunReads, RunReadsAll, image_reads_of, ref_reads, sourced_reads}
 use Rattle.fg_top.specs.Running.{IsSourced, RunComesTo, behind_head, run_in}
 use Rattle.fg_top.specs.Tallies.{RoseByRun, RoseByWish, Tallied}
 use Rattle.fg_top.proofs.EndLemmas.{behind, ends_behind, ends_given_up, ends_in_memory, refused_status}
-use Rattle.fg_top.proofs.OutcomeLemmas.{comes_behind_head, comes_in_memory, runs_so}
+use Rattle.fg_top.proofs.OutcomeLemmas.{comes_behind_head, comes_in_memory, le_fails, runs_so}
 
--- the job ends where a refusal's line was written, or its put failed
-pub ends_refused : {D : Type 0} (faults : D → ℕ) (olds news : List D) (comes : Outcome → Type 0) (refusal : Refusal)
-    (f0 f1 : ℕ) (t0 t1 : Option (List ℕ)) (status : ℕ) → IsCause faults olds news comes (Some refusal) (refusal_line refusal) →
-    IsWritten (output_between f0 f1 t0 t1) (Some refusal) (refusal_line refusal) status →
-    Ends faults olds news comes (output_between f0 f1 t0 t1) status
-ends_refused faults olds news comes refusal f0 f1 t0 t1 status cause written =
-    record { end = Some refusal; text = refusal_line refusal; cause = cause; written = written }
+-- the job ends where a refusal's line was written, or its put or the flush failed
+pub ends_refused : {D : Type 0} (faults : D → ℕ) (olds news : List D) (comes : Outcome → Type 0) (leaves : Option Refusal → Type 0) (refusal : Refusal)
+    (f0 f1 : ℕ) (t0 t1 : Option (List ℕ)) (back : Bool) (status : ℕ) → IsCause faults olds news comes (Some refusal) (refusal_line refusal) →
+    leaves (Some refusal) → IsWritten (output_between f0 f1 t0 t1 back) (Some refusal) (refusal_line refusal) status →
+    Ends faults olds news comes leaves (output_between f0 f1 t0 t1 back) status
+ends_refused faults olds news comes leaves refusal f0 f1 t0 t1 back status cause left written =
+    record { end = Some refusal; text = refusal_line refusal; cause = cause; left = left; written = written }
 
 -- what the run comes to, whatever it is
 some_run : {A : Type 0} → Wish → Option A → (A → Outcome) → Outcome
@@ -45,41 +45,41 @@ some_run-is wish (Some helds) run_of = refl
 
 -- the job ends where the put of the head failed
 pub ends_at_head : {D : Type 0} (faults : D → ℕ) (olds news : List D) (wish : Wish) (told : Option (List (List ℕ))) (header : Header) (run_of : List (List ℕ) → Run)
-    (f0 f1 : ℕ) (t0 t1 : Option (List ℕ)) (status : ℕ) →
-    IfSome told (λ helds. outcome_of wish helds ≡ run_outcome wish header (run_of helds)) → Rose f0 f1 →
+    (leaves : Option Refusal → Type 0) (f0 f1 : ℕ) (t0 t1 : Option (List ℕ)) (back : Bool) (status : ℕ) →
+    IfSome told (λ helds. outcome_of wish helds ≡ run_outcome wish header (run_of helds)) → leaves (Some Refusal.Memory) → Rose f0 f1 →
     GrewByFirst (head_of wish.pick header) t0 t1 → status ≡ 4 →
-    Ends faults olds news (WishComesTo wish told) (output_between f0 f1 t0 t1) status
-ends_at_head faults olds news wish told header run_of f0 f1 t0 t1 status so rose grew failed =
+    Ends faults olds news (WishComesTo wish told) leaves (output_between f0 f1 t0 t1 back) status
+ends_at_head faults olds news wish told header run_of leaves f0 f1 t0 t1 back status so left rose grew failed =
     let head = head_of wish.pick header in
     let run = some_run wish told (λ helds. behind_head (rules_of wish.pick) wish (run_of helds)) in
     let Of : List ℕ → Type 0 = λ text. GrewByFirst text t0 t1 in
-    ends_given_up faults olds news (WishComesTo wish told) (behind (head ∷ []) run) 1 f0 f1 t0 t1 status
-    (comes_behind_head wish told header run_of so run (some_run-is wish told run_of)) rose (subst Of (sym (append-nil head)) grew) failed
+    ends_given_up faults olds news (WishComesTo wish told) leaves (behind (head ∷ []) run) 1 f0 f1 t0 t1 back status
+    (comes_behind_head wish told header run_of so run (some_run-is wish told run_of)) left rose (subst Of (sym (append-nil head)) grew) failed
 
 -- the end of the run behind the head is the job's end
 pub ends_after_head : {D : Type 0} (faults : D → ℕ) (olds betweens news : List D) (wish : Wish) (told again : Option (List (List ℕ))) (header : Header)
-    (run_of : List (List ℕ) → Run) (f0 f1 f2 : ℕ) (t0 t1 t2 : Option (List ℕ)) (status : ℕ) →
-    again ≡ told → IfSome told (λ helds. outcome_of wish helds ≡ run_outcome wish header (run_of helds)) → NoneRose faults olds betweens →
+    (run_of : List (List ℕ) → Run) (own leaves : Option Refusal → Type 0) (f0 f1 f2 : ℕ) (t0 t1 t2 : Option (List ℕ)) (back : Bool) (status : ℕ) →
+    again ≡ told → IfSome told (λ helds. outcome_of wish helds ≡ run_outcome wish header (run_of helds)) → NoneRose faults olds betweens → ((end : Option Refusal) → leaves end) →
     f1 ≡ f0 → t1 ≡ grown t0 (head_of wish.pick header) →
-    Ends faults betweens news (RunComesTo (rules_of wish.pick) wish again run_of) (output_between f1 f2 t1 t2) status →
-    Ends faults olds news (WishComesTo wish told) (output_between f0 f2 t0 t2) status
-ends_after_head faults olds betweens news wish told again header run_of f0 f1 f2 t0 t1 t2 status same so kept left grew ends =
+    Ends faults betweens news (RunComesTo (rules_of wish.pick) wish again run_of) own (output_between f1 f2 t1 t2 back) status →
+    Ends faults olds news (WishComesTo wish told) leaves (output_between f0 f2 t0 t2 back) status
+ends_after_head faults olds betweens news wish told again header run_of own leaves f0 f1 f2 t0 t1 t2 back status same so kept left stood grew ends =
     let head = head_of wish.pick header in
-    let Of : Option (List (List ℕ)) → Type 0 = λ told. Ends faults betweens news (RunComesTo (rules_of wish.pick) wish told run_of) (output_between f1 f2 t1 t2) status in
-    ends_behind faults olds betweens news (RunComesTo (rules_of wish.pick) wish told run_of) (WishComesTo wish told) (head ∷ []) f0 f1 f2 t0 t1 t2 status
-    (comes_behind_head wish told header run_of so) kept left (grew ∙ ap (grown t0) (sym (append-nil head))) (subst Of same ends)
+    let Of : Option (List (List ℕ)) → Type 0 = λ told. Ends faults betweens news (RunComesTo (rules_of wish.pick) wish told run_of) own (output_between f1 f2 t1 t2 back) status in
+    ends_behind faults olds betweens news (RunComesTo (rules_of wish.pick) wish told run_of) (WishComesTo wish told) own leaves (head ∷ []) f0 f1 f2 t0 t1 t2 back status
+    (comes_behind_head wish told header run_of so) kept left stood (grew ∙ ap (grown t0) (sym (append-nil head))) (subst Of same ends)
 
 -- the same of a run in memory
 pub ends_in_memory_after_head : {D : Type 0} (faults : D → ℕ) (olds news : List D) (wish : Wish) (told : Option (List (List ℕ))) (header : Header) (graph : Graph)
-    (f0 f1 f2 : ℕ) (t0 t1 t2 : Option (List ℕ)) (status : ℕ) →
-    IfSome told (λ helds. outcome_of wish helds ≡ run_outcome wish header (run_in wish graph)) → NoneRose faults olds news →
+    (leaves : Option Refusal → Type 0) (f0 f1 f2 : ℕ) (t0 t1 t2 : Option (List ℕ)) (back : Bool) (status : ℕ) →
+    IfSome told (λ helds. outcome_of wish helds ≡ run_outcome wish header (run_in wish graph)) → NoneRose faults olds news → ((end : Option Refusal) → leaves end) →
     f1 ≡ f0 → t1 ≡ grown t0 (head_of wish.pick header) →
-    Ends {D = ℕ} (λ drive. drive) [] [] (RunComesTo (rules_of wish.pick) wish (Some graph) (run_in wish)) (output_between f1 f2 t1 t2) status →
-    Ends faults olds news (WishComesTo wish told) (output_between f0 f2 t0 t2) status
-ends_in_memory_after_head faults olds news wish told header graph f0 f1 f2 t0 t1 t2 status so kept left grew ends =
-    ends_after_head faults olds news news wish told told header (λ helds. run_in wish graph) f0 f1 f2 t0 t1 t2 status refl so kept left grew
+    EndsAlone (RunComesTo (rules_of wish.pick) wish (Some graph) (run_in wish)) (output_between f1 f2 t1 t2 back) status →
+    Ends faults olds news (WishComesTo wish told) leaves (output_between f0 f2 t0 t2 back) status
+ends_in_memory_after_head faults olds news wish told header graph leaves f0 f1 f2 t0 t1 t2 back status so kept left stood grew ends =
+    ends_after_head faults olds news news wish told told header (λ helds. run_in wish graph) leaves leaves f0 f1 f2 t0 t1 t2 back status refl so kept left stood grew
     (ends_in_memory faults news news (RunComesTo (rules_of wish.pick) wish (Some graph) (run_in wish)) (RunComesTo (rules_of wish.pick) wish told (λ helds. run_in wish graph))
-    (output_between f1 f2 t1 t2) status (comes_in_memory wish told graph) (EachDrive-same (λ old new. faults new ≡ faults old) (λ drive. refl) news) ends)
+    leaves (output_between f1 f2 t1 t2 back) status (comes_in_memory wish told graph) (EachDrive-same (λ old new. faults new ≡ faults old) (λ drive. refl) news) left ends)
 
 -- the outcome of a run over the graph that was read
 pub runs_loaded : (wish : Wish) (told again : Option (List (List ℕ))) (opened : Opened) (graph : Graph) → again ≡ told →
@@ -94,26 +94,39 @@ runs_loaded wish told again opened graph same opening sourced read =
       loaded (Some helds) so read = so ∙ ap (λ graph. run_outcome wish opened.header (run_in wish graph)) (sym read)
 
 -- what is read of the drives by a run in memory: where opening ended, where reading ended, and all
-pub ref_reads_first : {D : Type 0} (log : D → Option (List Read)) (told : Option (List (List ℕ))) (olds news : List D) →
-    IfSome told (λ helds. LogsGrewByFirst log (opening_reads helds) olds news) → IfSome told (λ helds. LogsGrewByFirst log (ref_reads helds) olds news)
-ref_reads_first log told olds news reads =
-    IfSome_then told reads (λ helds first. LogsGrewByFirst-before log (opening_reads helds) (image_reads_of (opening_of helds)) olds news first)
+pub ref_reads_first : {D : Type 0} (log : D → Option (List Read)) (wish : Wish) (told : Option (List (List ℕ))) (olds news : List D) →
+    IfSome told (λ helds. LogsGrewByFirst log (opening_reads helds) olds news) → IfSome told (λ helds. LogsGrewByFirst log (ref_reads wish helds) olds news)
+ref_reads_first log wish told olds news reads =
+    IfSome_then told reads (λ helds first. LogsGrewByFirst-before log (opening_reads helds) (image_reads_of wish (opening_of helds)) olds news first)
 
-pub ref_reads_some : {D : Type 0} (log : D → Option (List Read)) (told : Option (List (List ℕ))) (opened : Opened) (olds betweens news : List D) →
-    IfSome told (λ helds. opening_of helds ≡ Ok opened) → IfSome told (λ helds. LogsGrew log (opening_reads helds) olds betweens) →
-    LogsGrewByFirst log (whole_reads opened.layout) betweens news → IfSome told (λ helds. LogsGrewByFirst log (ref_reads helds) olds news)
-ref_reads_some log None opened olds betweens news opening first reads = tt
-ref_reads_some log (Some helds) opened olds betweens news opening first reads =
-    let By : Result Opened Refusal → Type 0 = λ given. LogsGrewByFirst log (image_reads_of given) betweens news in
-    LogsGrewByFirst-more log (opening_reads helds) (image_reads_of (opening_of helds)) olds betweens news first (subst By (sym opening) reads)
+-- the image is read whole where the source is a vertex
+sourced_whole : (opened : Opened) (own : Option ℕ) → IfSome own (λ source. source < opened.header.n) → sourced_reads opened own ≡ whole_reads opened.layout
+sourced_whole opened None below = refl
+sourced_whole opened (Some source) below =
+    let vertex : nat_le opened.header.n source ≡ false = le_fails opened.header.n source below in
+    rw vertex refl
 
-pub ref_reads_all : {D : Type 0} (log : D → Option (List Read)) (told : Option (List (List ℕ))) (opened : Opened) (olds betweens news : List D) →
-    IfSome told (λ helds. opening_of helds ≡ Ok opened) → IfSome told (λ helds. LogsGrew log (opening_reads helds) olds betweens) →
-    LogsGrew log (whole_reads opened.layout) betweens news → IfSome told (λ helds. LogsGrew log (ref_reads helds) olds news)
-ref_reads_all log None opened olds betweens news opening first reads = tt
-ref_reads_all log (Some helds) opened olds betweens news opening first reads =
-    let By : Result Opened Refusal → Type 0 = λ given. LogsGrew log (image_reads_of given) betweens news in
-    LogsGrew-more log (opening_reads helds) (image_reads_of (opening_of helds)) olds betweens news first (subst By (sym opening) reads)
+image_whole : (wish : Wish) (opened : Opened) (given : Result Opened Refusal) → given ≡ Ok opened → IsSourced wish.pick opened.header.n →
+    image_reads_of wish given ≡ whole_reads opened.layout
+image_whole wish opened given is sourced = ap (image_reads_of wish) is ∙ sourced_whole opened (source_of wish.pick) sourced
+
+pub ref_reads_some : {D : Type 0} (log : D → Option (List Read)) (wish : Wish) (told : Option (List (List ℕ))) (opened : Opened) (olds betweens news : List D) →
+    IfSome told (λ helds. opening_of helds ≡ Ok opened) → IsSourced wish.pick opened.header.n → IfSome told (λ helds. LogsGrew log (opening_reads helds) olds betweens) →
+    LogsGrewByFirst log (whole_reads opened.layout) betweens news → IfSome told (λ helds. LogsGrewByFirst log (ref_reads wish helds) olds news)
+ref_reads_some log wish None opened olds betweens news opening sourced first reads = tt
+ref_reads_some log wish (Some helds) opened olds betweens news opening sourced first reads =
+    let By : List DriveRead → Type 0 = λ given. LogsGrewByFirst log given betweens news in
+    LogsGrewByFirst-more log (opening_reads helds) (image_reads_of wish (opening_of helds)) olds betweens news first
+    (subst By (sym (image_whole wish opened (opening_of helds) opening sourced)) reads)
+
+pub ref_reads_all : {D : Type 0} (log : D → Option (List Read)) (wish : Wish) (told : Option (List (List ℕ))) (opened : Opened) (olds betweens news : List D) →
+    IfSome told (λ helds. opening_of helds ≡ Ok opened) → IsSourced wish.pick opened.header.n → IfSome told (λ helds. LogsGrew log (opening_reads helds) olds betweens) →
+    LogsGrew log (whole_reads opened.layout) betweens news → IfSome told (λ helds. LogsGrew log (ref_reads wish helds) olds news)
+ref_reads_all log wish None opened olds betweens news opening sourced first reads = tt
+ref_reads_all log wish (Some helds) opened olds betweens news opening sourced first reads =
+    let By : List DriveRead → Type 0 = λ given. LogsGrew log given betweens news in
+    LogsGrew-more log (opening_reads helds) (image_reads_of wish (opening_of helds)) olds betweens news first
+    (subst By (sym (image_whole wish opened (opening_of helds) opening sourced)) reads)
 
 -- reads of opening alone
 pub reads_first : {D : Type 0} (log : D → Option (List Read)) (wish : Wish) (told : Option (List (List ℕ))) (olds news : List D) →
@@ -158,6 +171,6 @@ tally_of wish (Some helds) again opened tally same opening rose =
     subst By (sym opening) (subst Of same rose)
 
 -- where the status is 0 nothing was refused
-pub not_refused : (f0 f1 : ℕ) (t0 t1 : Option (List ℕ)) (refusal : Refusal) (text : List ℕ) (status : ℕ) (P : Type 0) →
-    IsWritten (output_between f0 f1 t0 t1) (Some refusal) text status → status ≡ 0 → P
-not_refused f0 f1 t0 t1 refusal text status P written zero = absurd (refused_status (output_between f0 f1 t0 t1) refusal text status written zero)
+pub not_refused : (f0 f1 : ℕ) (t0 t1 : Option (List ℕ)) (back : Bool) (refusal : Refusal) (text : List ℕ) (status : ℕ) (P : Type 0) →
+    IsWritten (output_between f0 f1 t0 t1 back) (Some refusal) text status → status ≡ 0 → P
+not_refused f0 f1 t0 t1 back refusal text status P written zero = absurd (refused_status (output_between f0 f1 t0 t1 back) refusal text status written zero)

@@ -1,7 +1,11 @@
+mod BuildDrives
+mod BuildEnds
 mod EndLemmas
 mod FlashLemmas
 mod FlushLemmas
 mod JobLemmas
+mod MadeEnds
+mod MadeLaws
 mod MeaningLemmas
 mod NumberLemmas
 mod OutcomeLemmas
@@ -18,6 +22,8 @@ mod PagesStretches
 mod PagesTold
 mod PagesVertices
 mod RunEnds
+mod WordInput
+mod WordJobs
 pub mod WordLaws
 mod WordLists
 pub mod WordNames

@@ -15,18 +15,18 @@ use Rattle.fg_outside.proofs.DriveLemmas.{RoseFirst-after}
 use Rattle.fg_report.specs.Refusals.{refusal_line}
 use Rattle.fg_top.specs.declared.jobs.Wish.{Wish}
 use Rattle.fg_top.specs.Ends.{IsCause, IsCutShort, IsOutcome}
-use Rattle.fg_top.specs.Outcome.{Close, Done, IsOwnSource, MayClose, Outcome, Refuses, WishComesTo, at_once, head_of, opened_outcome, outcome_of, rules_of, run_close, run_on, run_outcome, source_of, sourced_outcome}
-use Rattle.fg_top.specs.Running.{IsSourced, RunComesTo, run_in}
+use Rattle.fg_top.specs.Outcome.{Close, Done, IsOwnSource, MayComeTo, Outcome, Refuses, WishComesTo, at_once, head_of, opened_outcome, outcome_of, rules_of, run_close, run_on, run_outcome, source_of, sourced_outcome}
+use Rattle.fg_top.specs.Running.{IsSourced, MayClose, RunComesTo, run_in}
 use Rattle.fg_top.proofs.EndLemmas.{behind}
 
 le_holds : (a b : ℕ) → a ≤ b → nat_le a b ≡ true
 le_holds a b h = grind arith
 
-le_fails : (a b : ℕ) → b < a → nat_le a b ≡ false
+pub le_fails : (a b : ℕ) → b < a → nat_le a b ≡ false
 le_fails a b h = grind arith
 
 -- drives that open to a refusal
-comes_refused : (wish : Wish) (told : Option (List (List ℕ))) (refusal : Refusal) → MayClose wish (Refuses refusal) →
+comes_refused : (wish : Wish) (told : Option (List (List ℕ))) (refusal : Refusal) → MayComeTo wish [] (Refuses refusal) →
     IfSome told (λ helds. opening_of helds ≡ Err refusal) → WishComesTo wish told (at_once (Refuses refusal))
 unfolding outcome_of
 comes_refused wish None refusal may opening = may
@@ -47,7 +47,7 @@ comes_bad_source : (wish : Wish) (told : Option (List (List ℕ))) (opened : Ope
     IfSome told (λ helds. opening_of helds ≡ Ok opened) → source_of wish.pick ≡ Some source → opened.header.n ≤ source →
     WishComesTo wish told (at_once (Refuses (Refusal.BadSource source opened.header.n)))
 unfolding outcome_of
-comes_bad_source wish None opened source opening is above = own_source (source_of wish.pick) source opened.header.n is above
+comes_bad_source wish None opened source opening is above = (own_source (source_of wish.pick) source opened.header.n is above, refl)
 comes_bad_source wish (Some helds) opened source opening is above =
     sym (ap (opened_outcome wish helds) opening ∙ refuses_source wish opened helds (source_of wish.pick) source is above)
 
@@ -67,16 +67,22 @@ unfolding outcome_of
 runs_so wish None opened opening sourced = tt
 runs_so wish (Some helds) opened opening sourced = ap (opened_outcome wish helds) opening ∙ runs_on wish opened helds (source_of wish.pick) sourced
 
+-- how a run may close behind its head it may close with it
+may_behind : (wish : Wish) (header : Header) (lines : List (List ℕ)) (close : Close) → MayClose close → MayComeTo wish (head_of wish.pick header ∷ lines) close
+may_behind wish header lines (Done text) may = (header, lines, refl)
+may_behind wish header lines (Refuses (Refusal.BadEdge bad)) may = (header, lines, refl)
+may_behind wish header lines (Refuses refusal) may = absurd may
+
 -- what a run comes to behind its head is what the wish comes to
 pub comes_behind_head : (wish : Wish) (told : Option (List (List ℕ))) (header : Header) (run_of : List (List ℕ) → Run) →
     IfSome told (λ helds. outcome_of wish helds ≡ run_outcome wish header (run_of helds)) →
     (outcome : Outcome) → RunComesTo (rules_of wish.pick) wish told run_of outcome → WishComesTo wish told (behind (head_of wish.pick header ∷ []) outcome)
-comes_behind_head wish None header run_of so outcome comes = comes
+comes_behind_head wish None header run_of so outcome comes = may_behind wish header outcome.lines outcome.close comes
 comes_behind_head wish (Some helds) header run_of so outcome comes = ap (behind (head_of wish.pick header ∷ [])) comes ∙ sym so
 
 -- some outcome that the wish comes to
 some_outcome : Wish → Option (List (List ℕ)) → Outcome
-some_outcome wish None = at_once (Done [])
+some_outcome wish None = at_once (Refuses Refusal.BadHeader)
 some_outcome wish (Some helds) = outcome_of wish helds
 
 -- work that is cut short before a line was written
@@ -85,7 +91,7 @@ unfolding some_outcome
 cut_at_once wish told last = record { outcome = some_outcome wish told; is_one = comes told; count = 0; text_is = refl }
   where
     comes : (told : Option (List (List ℕ))) → WishComesTo wish told (some_outcome wish told)
-    comes None = tt
+    comes None = refl
     comes (Some helds) = refl
 
 -- an outcome before which no line is written
@@ -94,7 +100,7 @@ closed comes close last is = record { outcome = at_once close; is_one = is; clos
 
 -- a refusal for what the drives hold
 content : {D : Type 0} (faults : D → ℕ) (olds news : List D) (wish : Wish) (told : Option (List (List ℕ))) (refusal : Refusal) →
-    NoneRose faults olds news → MayClose wish (Refuses refusal) → IfSome told (λ helds. opening_of helds ≡ Err refusal) →
+    NoneRose faults olds news → MayComeTo wish [] (Refuses refusal) → IfSome told (λ helds. opening_of helds ≡ Err refusal) →
     NoneRose faults olds news × IsOutcome (WishComesTo wish told) (Refuses refusal) (refusal_line refusal) (refusal_line refusal)
 content faults olds news wish told refusal kept may opening =
     (kept, closed (WishComesTo wish told) (Refuses refusal) (refusal_line refusal) (comes_refused wish told refusal may opening))
@@ -105,14 +111,14 @@ pub cause_of_opening : {D : Type 0} (faults : D → ℕ) (olds news : List D) (w
     IsCause faults olds news (WishComesTo wish told) (Some refusal) (refusal_line refusal)
 cause_of_opening faults olds news wish told Refusal.Memory counts opening = cut_at_once wish told (refusal_line Refusal.Memory)
 cause_of_opening faults olds news wish told (Refusal.DriveFault drive) counts opening = (counts, cut_at_once wish told (refusal_line (Refusal.DriveFault drive)))
-cause_of_opening faults olds news wish told (Refusal.NoLabel drive) counts opening = content faults olds news wish told (Refusal.NoLabel drive) counts tt opening
-cause_of_opening faults olds news wish told (Refusal.WrongDrive drive found) counts opening = content faults olds news wish told (Refusal.WrongDrive drive found) counts tt opening
-cause_of_opening faults olds news wish told (Refusal.LabelDiffers drive) counts opening = content faults olds news wish told (Refusal.LabelDiffers drive) counts tt opening
-cause_of_opening faults olds news wish told (Refusal.ShortDrive drive have need) counts opening = content faults olds news wish told (Refusal.ShortDrive drive have need) counts tt opening
-cause_of_opening faults olds news wish told Refusal.BadHeader counts opening = content faults olds news wish told Refusal.BadHeader counts tt opening
-cause_of_opening faults olds news wish told (Refusal.BadVersion found) counts opening = content faults olds news wish told (Refusal.BadVersion found) counts tt opening
-cause_of_opening faults olds news wish told Refusal.BadSections counts opening = content faults olds news wish told Refusal.BadSections counts tt opening
-cause_of_opening faults olds news wish told (Refusal.BadIndex dir place) counts opening = content faults olds news wish told (Refusal.BadIndex dir place) counts tt opening
+cause_of_opening faults olds news wish told (Refusal.NoLabel drive) counts opening = content faults olds news wish told (Refusal.NoLabel drive) counts refl opening
+cause_of_opening faults olds news wish told (Refusal.WrongDrive drive found) counts opening = content faults olds news wish told (Refusal.WrongDrive drive found) counts refl opening
+cause_of_opening faults olds news wish told (Refusal.LabelDiffers drive) counts opening = content faults olds news wish told (Refusal.LabelDiffers drive) counts refl opening
+cause_of_opening faults olds news wish told (Refusal.ShortDrive drive have need) counts opening = content faults olds news wish told (Refusal.ShortDrive drive have need) counts refl opening
+cause_of_opening faults olds news wish told Refusal.BadHeader counts opening = content faults olds news wish told Refusal.BadHeader counts refl opening
+cause_of_opening faults olds news wish told (Refusal.BadVersion found) counts opening = content faults olds news wish told (Refusal.BadVersion found) counts refl opening
+cause_of_opening faults olds news wish told Refusal.BadSections counts opening = content faults olds news wish told Refusal.BadSections counts refl opening
+cause_of_opening faults olds news wish told (Refusal.BadIndex dir place) counts opening = content faults olds news wish told (Refusal.BadIndex dir place) counts refl opening
 cause_of_opening faults olds news wish told refusal counts opening = absurd counts
 
 -- opening never answers for the output
@@ -144,17 +150,16 @@ reading_not_output {D} faults olds news refusal counts is =
     let P : Refusal → Type 0 = λ refusal. ReadCounts {D = D} {A = Graph} faults olds news (Err refusal) in subst P is counts
 
 -- a run closes as it may where nothing is told
-may_close : (wish : Wish) (quiet : Bool) (show : VState → Value) (ending : Ending) (iterations : ℕ) (states : List VState) →
-    MayClose wish (run_close quiet show ending iterations states)
-may_close wish quiet show Settled iterations states = tt
-may_close wish quiet show Stopped iterations states = tt
-may_close wish quiet show (Refused begun bad) iterations states = tt
+may_close : (quiet : Bool) (show : VState → Value) (ending : Ending) (iterations : ℕ) (states : List VState) →
+    MayClose (run_close quiet show ending iterations states)
+may_close quiet show Settled iterations states = tt
+may_close quiet show Stopped iterations states = tt
+may_close quiet show (Refused begun bad) iterations states = tt
 
 -- a run over a graph that is known
 pub comes_in_memory : (wish : Wish) (told : Option (List (List ℕ))) (graph : Graph) (outcome : Outcome) →
     RunComesTo (rules_of wish.pick) wish (Some graph) (run_in wish) outcome → RunComesTo (rules_of wish.pick) wish told (λ helds. run_in wish graph) outcome
 comes_in_memory wish None graph outcome is =
     let ran = run_in wish graph in
-    let P : Close → Type 0 = λ close. MayClose wish close in
-    subst P (sym (ap (λ (one : Outcome). one.close) is)) (may_close wish wish.quiet (rules_of wish.pick).show ran.ending ran.iterations ran.states)
+    subst MayClose (sym (ap (λ (one : Outcome). one.close) is)) (may_close wish.quiet (rules_of wish.pick).show ran.ending ran.iterations ran.states)
 comes_in_memory wish (Some helds) graph outcome is = is

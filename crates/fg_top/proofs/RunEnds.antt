@@ -10,7 +10,7 @@ use Rattle.fg_base.specs.Told.{grown, GrewByFirst}
 use Rattle.fg_base.specs.declared.plain.BadEdge.{BadEdge}
 use Rattle.fg_base.specs.declared.plain.Value.{Value}
 use Rattle.fg_base.specs.declared.plain.VState.{VState}
-use Rattle.fg_base.specs.declared.refusal.Refusal.TheVariants as Refusal
+use Rattle.fg_base.specs.declared.refusal.Refusal.{Refusal}
 use Rattle.fg_base.proofs.GrowthLemmas.{grew_on}
 use Rattle.fg_base.proofs.ToldLemmas.{grown-grown}
 use Rattle.fg_model.specs.declared.graph.Graph.{Graph}
@@ -26,8 +26,8 @@ use Rattle.fg_report.specs.Refusals.{refusal_line}
 use Rattle.fg_report.specs.ReportWatch.{iteration_text}
 use Rattle.fg_top.specs.declared.jobs.Wish.{Wish}
 use Rattle.fg_top.specs.Ends.{Ends, output_between}
-use Rattle.fg_top.specs.Outcome.{Close, Done, MayClose, Outcome, Refuses, run_close, text_of}
-use Rattle.fg_top.specs.Running.{IsClosed, RunComesTo, behind_head, last_text}
+use Rattle.fg_top.specs.Outcome.{Close, Done, Outcome, Refuses, run_close, text_of}
+use Rattle.fg_top.specs.Running.{IsClosed, MayClose, RunComesTo, behind_head, last_text}
 use Rattle.fg_top.proofs.EndLemmas.{ends_given_up, refused_status, written_behind}
 
 -- what is written of all these iterations is what a watch that reports tells of them
@@ -105,7 +105,7 @@ only_line : Close → List ℕ → Outcome
 only_line close line = record { lines = line ∷ []; close = close }
 
 whole_run : {A : Type 0} (rules : Rules) (wish : Wish) (told : Option A) (run_of : A → Run) (close : Close) (t0 t1 : Option (List ℕ)) →
-    Grew t0 t1 → MayClose wish close → IfSome told (λ one. close_of rules wish (run_of one) ≡ close) →
+    Grew t0 t1 → MayClose close → IfSome told (λ one. close_of rules wish (run_of one) ≡ close) →
     IfSome told (λ one. ShownAll (iteration_text wish.each rules.show) (run_of one).finished t0 t1) →
     Whole rules wish told run_of close t0 t1
 unfolding only_line
@@ -182,7 +182,8 @@ RunShown rules wish fault t0 t1 run =
     (ShownPart told run.finished t0 t1)
 
 pub ends_of_run : {D A : Type 0} (faults : D → ℕ) (olds news : List D) (rules : Rules) (wish : Wish) (told : Option A) (run_of : A → Run)
-    (answer : Result End RunFault) (f0 f1 f2 : ℕ) (t0 t1 t2 : Option (List ℕ)) (status : ℕ) →
+    (leaves : Option Refusal → Type 0) (answer : Result End RunFault) (f0 f1 f2 : ℕ) (t0 t1 t2 : Option (List ℕ)) (back : Bool) (status : ℕ) →
+    ((end : Option Refusal) → leaves end) →
     Grew t0 t1 →
     IfOk answer (λ end. IfSome told (λ one. answer_of (run_of one) ≡ Ok end)) →
     OnOk answer (NoneRose faults olds news) →
@@ -191,18 +192,19 @@ pub ends_of_run : {D A : Type 0} (faults : D → ℕ) (olds news : List D) (rule
     IfErr answer (λ fault. RunCause faults olds news f0 f1 fault) →
     IfErr answer (λ fault. IfSome told (λ one. RunBad fault (run_of one))) →
     IfErr answer (λ fault. IfSome told (λ one. RunShown rules wish fault t0 t1 (run_of one))) →
-    IsClosed wish.quiet rules.show (output_between f1 f2 t1 t2) answer status →
-    Ends faults olds news (RunComesTo rules wish told run_of) (output_between f0 f2 t0 t2) status
-ends_of_run faults olds news rules wish told run_of (Ok end) f0 f1 f2 t0 t1 t2 status grew ok kept same shown counts bad some closed =
+    IsClosed wish.quiet rules.show (output_between f1 f2 t1 t2 back) answer status →
+    Ends faults olds news (RunComesTo rules wish told run_of) leaves (output_between f0 f2 t0 t2 back) status
+ends_of_run faults olds news rules wish told run_of leaves (Ok end) f0 f1 f2 t0 t1 t2 back status left grew ok kept same shown counts bad some closed =
     let last = last_text wish.quiet rules.show end in
     let whole = whole_run rules wish told run_of (Done last) t0 t1 grew tt (IfSome_then told ok (λ one answer. done_of rules wish (run_of one) end answer)) shown in
     record {
       end = None;
       text = concat whole.outcome.lines ++ last;
       cause = (kept, record { last = last; is_outcome = record { outcome = whole.outcome; is_one = whole.is_one; closes = whole.closes; text_is = refl } });
-      written = written_behind f0 f1 f2 t0 t1 t2 None (concat whole.outcome.lines) last status same whole.wrote closed;
+      left = left None;
+      written = written_behind f0 f1 f2 t0 t1 t2 back None (concat whole.outcome.lines) last status same whole.wrote closed;
     }
-ends_of_run faults olds news rules wish told run_of (Err RunFault.Memory) f0 f1 f2 t0 t1 t2 status grew ok kept same shown counts bad some closed =
+ends_of_run faults olds news rules wish told run_of leaves (Err RunFault.Memory) f0 f1 f2 t0 t1 t2 back status left grew ok kept same shown counts bad some closed =
     let cut = cut_run rules wish told run_of t0 t1 grew some in
     let lines = concat (take cut.count cut.outcome.lines) in
     let line = refusal_line Refusal.Memory in
@@ -210,9 +212,10 @@ ends_of_run faults olds news rules wish told run_of (Err RunFault.Memory) f0 f1 
       end = Some Refusal.Memory;
       text = lines ++ line;
       cause = record { outcome = cut.outcome; is_one = cut.is_one; count = cut.count; text_is = refl };
-      written = written_behind f0 f1 f2 t0 t1 t2 (Some Refusal.Memory) lines line status counts cut.wrote closed;
+      left = left (Some Refusal.Memory);
+      written = written_behind f0 f1 f2 t0 t1 t2 back (Some Refusal.Memory) lines line status counts cut.wrote closed;
     }
-ends_of_run faults olds news rules wish told run_of (Err (RunFault.Drive drive)) f0 f1 f2 t0 t1 t2 status grew ok kept same shown counts bad some closed =
+ends_of_run faults olds news rules wish told run_of leaves (Err (RunFault.Drive drive)) f0 f1 f2 t0 t1 t2 back status left grew ok kept same shown counts bad some closed =
     let cut = cut_run rules wish told run_of t0 t1 grew some in
     let lines = concat (take cut.count cut.outcome.lines) in
     let line = refusal_line (Refusal.DriveFault drive) in
@@ -220,35 +223,37 @@ ends_of_run faults olds news rules wish told run_of (Err (RunFault.Drive drive))
       end = Some (Refusal.DriveFault drive);
       text = lines ++ line;
       cause = (counts.0, record { outcome = cut.outcome; is_one = cut.is_one; count = cut.count; text_is = refl });
-      written = written_behind f0 f1 f2 t0 t1 t2 (Some (Refusal.DriveFault drive)) lines line status counts.1 cut.wrote closed;
+      left = left (Some (Refusal.DriveFault drive));
+      written = written_behind f0 f1 f2 t0 t1 t2 back (Some (Refusal.DriveFault drive)) lines line status counts.1 cut.wrote closed;
     }
-ends_of_run faults olds news rules wish told run_of (Err (RunFault.BadEdge edge)) f0 f1 f2 t0 t1 t2 status grew ok kept same shown counts bad some closed =
+ends_of_run faults olds news rules wish told run_of leaves (Err (RunFault.BadEdge edge)) f0 f1 f2 t0 t1 t2 back status left grew ok kept same shown counts bad some closed =
     let whole = whole_run rules wish told run_of (Refuses (Refusal.BadEdge edge)) t0 t1 grew tt (IfSome_then told bad (λ one answer. bad_of rules wish (run_of one) edge answer)) some in
     let line = refusal_line (Refusal.BadEdge edge) in
     record {
       end = Some (Refusal.BadEdge edge);
       text = concat whole.outcome.lines ++ line;
       cause = (counts.0, record { outcome = whole.outcome; is_one = whole.is_one; closes = whole.closes; text_is = refl });
-      written = written_behind f0 f1 f2 t0 t1 t2 (Some (Refusal.BadEdge edge)) (concat whole.outcome.lines) line status counts.1 whole.wrote closed;
+      left = left (Some (Refusal.BadEdge edge));
+      written = written_behind f0 f1 f2 t0 t1 t2 back (Some (Refusal.BadEdge edge)) (concat whole.outcome.lines) line status counts.1 whole.wrote closed;
     }
-ends_of_run faults olds news rules wish told run_of (Err RunFault.Watch) f0 f1 f2 t0 t1 t2 status grew ok kept same shown counts bad some closed =
+ends_of_run faults olds news rules wish told run_of leaves (Err RunFault.Watch) f0 f1 f2 t0 t1 t2 back status left grew ok kept same shown counts bad some closed =
     let broken = broken_run rules wish told run_of t0 t1 grew some in
     let From : ℕ → Type 0 = λ count. Rose f0 count in
     let To : Option (List ℕ) → Type 0 = λ text. GrewByFirst (concat (take broken.count broken.outcome.lines)) t0 text in
-    ends_given_up faults olds news (RunComesTo rules wish told run_of) broken.outcome broken.count f0 f2 t0 t2 status broken.is_one
+    ends_given_up faults olds news (RunComesTo rules wish told run_of) leaves broken.outcome broken.count f0 f2 t0 t2 back status broken.is_one (left (Some Refusal.Memory))
     (subst From (sym closed.faults) counts.1) (subst To (sym closed.text) broken.wrote) closed.failed
 
 -- where the status is 0 the run has an end
-pub run_is_ok : (quiet : Bool) (show : VState → Value) (f1 f2 : ℕ) (t1 t2 : Option (List ℕ)) (answer : Result End RunFault) (status : ℕ) (P : Type 0) →
-    IsClosed quiet show (output_between f1 f2 t1 t2) answer status → status ≡ 0 → OnOk answer P → P
-run_is_ok quiet show f1 f2 t1 t2 (Ok end) status P closed zero known = known
-run_is_ok quiet show f1 f2 t1 t2 (Err RunFault.Memory) status P closed zero known =
-    absurd (refused_status (output_between f1 f2 t1 t2) Refusal.Memory _ status closed zero)
-run_is_ok quiet show f1 f2 t1 t2 (Err (RunFault.Drive drive)) status P closed zero known =
-    absurd (refused_status (output_between f1 f2 t1 t2) (Refusal.DriveFault drive) _ status closed zero)
-run_is_ok quiet show f1 f2 t1 t2 (Err (RunFault.BadEdge bad)) status P closed zero known =
-    absurd (refused_status (output_between f1 f2 t1 t2) (Refusal.BadEdge bad) _ status closed zero)
-run_is_ok quiet show f1 f2 t1 t2 (Err RunFault.Watch) status P closed zero known =
+pub run_is_ok : (quiet : Bool) (show : VState → Value) (f1 f2 : ℕ) (t1 t2 : Option (List ℕ)) (back : Bool) (answer : Result End RunFault) (status : ℕ) (P : Type 0) →
+    IsClosed quiet show (output_between f1 f2 t1 t2 back) answer status → status ≡ 0 → OnOk answer P → P
+run_is_ok quiet show f1 f2 t1 t2 back (Ok end) status P closed zero known = known
+run_is_ok quiet show f1 f2 t1 t2 back (Err RunFault.Memory) status P closed zero known =
+    absurd (refused_status (output_between f1 f2 t1 t2 back) Refusal.Memory _ status closed zero)
+run_is_ok quiet show f1 f2 t1 t2 back (Err (RunFault.Drive drive)) status P closed zero known =
+    absurd (refused_status (output_between f1 f2 t1 t2 back) (Refusal.DriveFault drive) _ status closed zero)
+run_is_ok quiet show f1 f2 t1 t2 back (Err (RunFault.BadEdge bad)) status P closed zero known =
+    absurd (refused_status (output_between f1 f2 t1 t2 back) (Refusal.BadEdge bad) _ status closed zero)
+run_is_ok quiet show f1 f2 t1 t2 back (Err RunFault.Watch) status P closed zero known =
     let four : ◌≡◌ {A = ℕ} 4 0 = sym closed.failed ∙ zero in cc
 
 -- how a run in memory answers, as a run that has no drives

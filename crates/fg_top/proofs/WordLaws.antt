@@ -1,18 +1,10 @@
 -- The words that have a reading are those that are spelled by it, and words without a fault name a program.
-use Rattle.std.proofs.Common.{◌≡◌, ℕ, Bool, true, false, ◌&&◌, ◌||◌, not, Option, Some, None, List, [], ◌∷◌, ◌++◌, if◌then◌else◌, refl, sym, ◌∙◌, ap, subst, nat_eq, find, is_some, codes, append_assoc}
+use Rattle.std.proofs.Common.{◌≡◌, ℕ, Bool, true, false, ◌&&◌, not, Option, Some, None, List, [], ◌∷◌, ◌++◌, if◌then◌else◌, refl, sym, ◌∙◌, ap, subst, nat_eq, find, codes, append_assoc}
 use Rattle.std.specs.List.{list_all, flat_map, starts_with}
 use Rattle.fg_base.specs.declared.refusal.Opt.{Opt}
 use Rattle.fg_base.specs.declared.refusal.Opt.TheVariants.{Program, Source, Max, Cut, Each, Quiet, Unit as UnitPages, Number, Undirected, Input, Start, Nodes, Edges, Drives, Drive}
-use Rattle.fg_top.specs.declared.words.command.Command.{Command}
-use Rattle.fg_top.specs.declared.words.command.Command.TheVariants.{Run, Ref}
-use Rattle.fg_top.specs.declared.words.command.ProgramName.{ProgramName}
-use Rattle.fg_top.specs.declared.words.command.ProgramName.TheVariants.{Bfs, Sssp, Rank}
-use Rattle.fg_top.specs.declared.words.command_line.CommandLine.{CommandLine}
-use Rattle.fg_top.specs.declared.words.said.Said.{Said}
-use Rattle.fg_top.specs.declared.words.said.Said.TheVariants.{Nothing, OutOfRange, Value}
-use Rattle.fg_top.proofs.WordNames.{sound, absent, passed, not_missing}
-use Rattle.fg_top.specs.CommandLine.{table, fault_of, is_there, is_out_of_range, is_missing, is_beyond, is_needed_by, is_vital, Given, is_word, is_flag, name_of, options, option_of}
-use Rattle.fg_top.specs.Words.{Parts, parts_from, parts_of, proper, led_by, behind_option, is_option_first, is_each_once, is_drive, picked, pick_of}
+use Rattle.fg_top.specs.CommandLine.{Given, is_word, is_flag, name_of, options, option_of}
+use Rattle.fg_top.specs.Words.{Parts, parts_from, parts_of, proper, led_by, behind_option, is_option_first, is_each_once, is_drive}
 use Rattle.fg_top.proofs.WordReading.{same_text, is_built, left, right, opening, by_flag, by_value}
 
 -- an option's word
@@ -115,14 +107,14 @@ opens Max built = refl
 opens Cut built = refl
 opens Each built = refl
 opens Quiet built = refl
-opens UnitPages built = absurd (cc)
-opens Number built = absurd (cc)
-opens Undirected built = absurd (cc)
-opens Input built = absurd (cc)
-opens Start built = absurd (cc)
-opens Nodes built = absurd (cc)
-opens Edges built = absurd (cc)
-opens Drives built = absurd (cc)
+opens UnitPages built = refl
+opens Number built = refl
+opens Undirected built = refl
+opens Input built = refl
+opens Start built = refl
+opens Nodes built = refl
+opens Edges built = refl
+opens Drives built = refl
 opens Drive built = absurd (cc)
 
 first_dash : (a b : Bool) → not (a && true) ≡ true → (a && b) ≡ false
@@ -175,39 +167,3 @@ pub read_by_spelling : (parts : Parts) → list_all is_writable parts.given ≡ 
 read_by_spelling parts writable once are =
     let proper_parts : proper (Some parts) ≡ Some parts = rw (once, are) in
     ap proper (read_spelled parts.given parts.drives writable are) ∙ proper_parts
-
--- Words without a fault name a program, with the source that it needs.
-
-abbrev rest_of_table : List Opt
-rest_of_table = Max ∷ Cut ∷ Each ∷ Quiet ∷ Drive ∷ []
-
-at_program : (p : Opt → Bool) → find p table ≡ None → p Program ≡ false
-at_program p none = absent (p Program) Program (find p (Source ∷ rest_of_table)) none
-
-at_source : (p : Opt → Bool) → find p table ≡ None → p Source ≡ false
-at_source p none = absent (p Source) Source (find p rest_of_table) (passed (p Program) Program (find p (Source ∷ rest_of_table)) none)
-
-is_wanted : (needed : Bool) → (true && (needed || true)) ≡ false → ⊥
-is_wanted true none = cc
-is_wanted false none = cc
-
-picked_by : (program : Said ProgramName) (source cut : Said ℕ) (needed : Bool) → is_there program ≡ true → is_out_of_range program ≡ false → (not (is_there source) && (needed || is_vital program Source)) ≡ false → is_out_of_range source ≡ false → is_some (picked program source cut) ≡ true
-picked_by Nothing source cut needed there within given inside = absurd (cc)
-picked_by OutOfRange source cut needed there within given inside = absurd (cc)
-picked_by (Value Rank) source cut needed there within given inside = refl
-picked_by (Value Bfs) Nothing cut needed there within given inside = absurd (is_wanted needed given)
-picked_by (Value Bfs) OutOfRange cut needed there within given inside = absurd (cc)
-picked_by (Value Bfs) (Value source) cut needed there within given inside = refl
-picked_by (Value Sssp) Nothing cut needed there within given inside = absurd (is_wanted needed given)
-picked_by (Value Sssp) OutOfRange cut needed there within given inside = absurd (cc)
-picked_by (Value Sssp) (Value source) cut needed there within given inside = refl
-
-needs_program : (command : Command) → is_needed_by command Program ≡ true
-needs_program Run = refl
-needs_program Ref = refl
-
-pub names_a_program : (command : Command) (line : CommandLine) → fault_of command line ≡ None → is_some (pick_of line) ≡ true
-names_a_program command line none =
-    let clear = sound command line none in
-    let there = not_missing (is_there line.program) (is_needed_by command Program) (is_vital line.program Program) (needs_program command) (at_program (is_missing command line) clear.missing) in
-    picked_by line.program line.source line.cut (is_needed_by command Source) there (at_program (is_beyond line) clear.beyond) (at_source (is_missing command line) clear.missing) (at_source (is_beyond line) clear.beyond)

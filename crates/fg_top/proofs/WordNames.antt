@@ -1,22 +1,16 @@
 -- The drives that words name: they stand last, and an accepted job names 1 to 16.
-use Rattle.std.proofs.Common.{◌≡◌, ℕ, ◌-◌, ◌≤◌, Bool, true, false, ◌&&◌, ◌||◌, not, nat_lt, Option, Some, None, Result, Ok, List, [], ◌∷◌, ◌++◌, if◌then◌else◌, length, map, drop, refl, sym, ◌∙◌, ap, subst, arith, find, is_ok, append-nil, length-append, option_map}
+use Rattle.std.proofs.Common.{◌≡◌, ℕ, ◌-◌, ◌≤◌, Bool, true, false, ◌&&◌, ◌||◌, not, Option, Some, None, List, [], ◌∷◌, ◌++◌, if◌then◌else◌, length, map, drop, refl, sym, ◌∙◌, ap, subst, arith, find, is_ok, append-nil, length-append, option_map}
 use Rattle.std.proofs.Math.Seq.{drop-append_seam}
-use Rattle.std.proofs.lemmas.Bool.Decides.{nat_tests}
 use Rattle.std.proofs.lemmas.List.{length-map, drop-map, take_rest}
 use Rattle.std.specs.List.{list_all}
 use Rattle.std.specs.Option.{option_or, option_map_or}
 use Rattle.fg_base.specs.declared.refusal.Opt.{Opt}
-use Rattle.fg_base.specs.declared.refusal.Opt.TheVariants.{Drive}
-use Rattle.fg_base.specs.declared.refusal.WordFault.{WordFault}
 use Rattle.fg_base.specs.declared.refusal.WordFault.TheVariants.{Extra, Missing, Range}
-use Rattle.fg_top.specs.declared.jobs.Job.{Job}
-use Rattle.fg_top.specs.declared.jobs.Pick.{Pick}
 use Rattle.fg_top.specs.declared.words.command.Command.{Command}
-use Rattle.fg_top.specs.declared.words.command.Command.TheVariants.{Run, Ref}
 use Rattle.fg_top.specs.declared.words.command_line.CommandLine.{CommandLine}
-use Rattle.fg_top.specs.CommandLine.{Given, option_of, is_flag, is_missing, is_vital, is_needed_by, is_beyond, is_extra, fault_of, table, options, command_of, line_of}
+use Rattle.fg_top.specs.CommandLine.{Given, option_of, is_flag, is_missing, is_beyond, is_extra, fault_of, table}
 use Rattle.fg_top.proofs.WordSteps.{slice_from}
-use Rattle.fg_top.specs.Words.{Parts, parts_from, parts_of, proper, is_each_once, is_drive, led_by, behind_option, is_option_first, job_of, names_of, drives_of, judged, answer, pick_of}
+use Rattle.fg_top.specs.Words.{Parts, parts_from, parts_of, proper, is_each_once, is_drive, led_by, behind_option, is_option_first, job_of, names_of, drives_of}
 
 -- the drives of these parts stand last among the words
 abbrev EndsIn : List (List ℕ) → Option Parts → Type 0
@@ -102,7 +96,7 @@ slice_is {A} f xs names count is last =
     ∙ ap (λ (n : ℕ). drop n (map f xs)) (omega (arith, length-map xs f))
     ∙ last_is (map f xs) names last
 
-last_absent : (p : Opt → Bool) (first : List Opt) (last : Opt) → find p (first ++ last ∷ []) ≡ None → p last ≡ false
+pub last_absent : (p : Opt → Bool) (first : List Opt) (last : Opt) → find p (first ++ last ∷ []) ≡ None → p last ≡ false
 last_absent p [] last none = absent (p last) last None none
 last_absent p (option ∷ first) last none = last_absent p first last (passed (p option) option (find p (first ++ last ∷ [])) none)
 
@@ -123,42 +117,7 @@ sound command line none =
     let all = all_none (find (is_extra command line) table) (find (is_missing command line) table) (find (is_beyond line) table) none in
     record { extra = all.0; missing = all.1; beyond = all.2 }
 
-needs_drives : (command : Command) → is_needed_by command Drive ≡ true
-needs_drives Run = refl
-needs_drives Ref = refl
-
 pub not_missing : (b needed c : Bool) → needed ≡ true → (not b && (needed || c)) ≡ false → b ≡ true
 not_missing true needed c is here = refl
 not_missing false true c is here = absurd (cc)
 not_missing false false c is here = absurd (cc)
-
--- a line without a fault names some drives, and not more than 16
-few_drives : (command : Command) (line : CommandLine) → Sound command line → (1 ≤ line.drives) × (line.drives ≤ 16)
-few_drives command line none =
-    let some : nat_lt 0 line.drives ≡ true = not_missing (nat_lt 0 line.drives) (is_needed_by command Drive) (is_vital line.program Drive) (needs_drives command) (last_absent (is_missing command line) options Drive none.missing) in
-    let few : nat_lt 16 line.drives ≡ false = last_absent (is_beyond line) options Drive none.beyond in
-    (grind (arith, nat_tests), grind (arith, nat_tests))
-
-no_fault : (fault : Option WordFault) (pick : Option Pick) (command : Command) (line : CommandLine) (job : Job) → answer fault pick command line ≡ Ok job → fault ≡ None
-no_fault None pick command line job accepted = refl
-no_fault (Some fault) pick command line job accepted = absurd (cc)
-
-abbrev names_in : Option Parts → List (List ℕ)
-names_in parts = option_map_or (λ (p : Parts). p.drives) parts []
-
-named_by : (command : Option Command) (parts : Option Parts) (job : Job) → judged command (option_map (λ (p : Parts). line_of p.given p.drives) parts) ≡ Ok job → (1 ≤ length (names_in parts)) × (length (names_in parts) ≤ 16)
-named_by command None job accepted = absurd (cc)
-named_by None (Some parts) job accepted = absurd (cc)
-named_by (Some command) (Some parts) job accepted =
-    let line = line_of parts.given parts.drives in
-    few_drives command line (sound command line (no_fault (fault_of command line) (pick_of line) command line job accepted))
-
-names_accepted : (words : List (List ℕ)) (job : Job) → job_of words ≡ Ok job → names_of words ≡ drives_of words
-names_accepted words job accepted = ap (λ (answer : Result Job WordFault). if is_ok answer then drives_of words else []) accepted
-
--- an accepted job names 1 to 16 drives
-pub named_drives : (words : List (List ℕ)) (job : Job) → job_of words ≡ Ok job → (1 ≤ length (names_of words)) × (length (names_of words) ≤ 16)
-named_drives [] job accepted = absurd (cc)
-named_drives (command ∷ words) job accepted =
-    subst (λ (names : List (List ℕ)). (1 ≤ length names) × (length names ≤ 16)) (sym (names_accepted (command ∷ words) job accepted))
-    (named_by (command_of command) (parts_of words) job accepted)

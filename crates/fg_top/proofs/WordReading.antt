@@ -43,13 +43,13 @@ any_value line Program value other flag = absurd (cc)
 any_value line Source value other flag = absurd (cc)
 any_value line Max value other flag = absurd (cc)
 any_value line Cut value other flag = absurd (cc)
-any_value line UnitPages value other flag = refl
-any_value line Number value other flag = refl
-any_value line Input value other flag = refl
-any_value line Start value other flag = refl
-any_value line Nodes value other flag = refl
-any_value line Edges value other flag = refl
-any_value line Drives value other flag = refl
+any_value line UnitPages value other flag = absurd (cc)
+any_value line Number value other flag = absurd (cc)
+any_value line Input value other flag = absurd (cc)
+any_value line Start value other flag = absurd (cc)
+any_value line Nodes value other flag = absurd (cc)
+any_value line Edges value other flag = absurd (cc)
+any_value line Drives value other flag = absurd (cc)
 any_value line Drive value other flag = refl
 
 -- the parts of words that begin as an option does
@@ -123,7 +123,7 @@ or_chosen : (b : Bool) (x : List ℕ) (rest last : Option (List ℕ)) → (if b 
 or_chosen true x rest last = refl
 or_chosen false x rest last = refl
 
-first_value : (option : Opt) (one : Given) (given : List Given) → value_of option (one ∷ given) ≡ (if is_same one.option option then Some one.value else value_of option given)
+pub first_value : (option : Opt) (one : Given) (given : List Given) → value_of option (one ∷ given) ≡ (if is_same one.option option then Some one.value else value_of option given)
 first_value option one given = value_chosen (is_same one.option option) one (find (λ (g : Given). is_same g.option option) given)
 
 more_value : (option : Opt) (given : List Given) (one : Given) → value_of option (given ++ one ∷ []) ≡ option_or (value_of option given) (if is_same one.option option then Some one.value else None)
@@ -171,14 +171,14 @@ given_is Max given built = there_said _ (value_of Max given)
 given_is Cut given built = there_said _ (value_of Cut given)
 given_is Each given built = refl
 given_is Quiet given built = refl
-given_is UnitPages given built = absurd (cc)
-given_is Number given built = absurd (cc)
-given_is Undirected given built = absurd (cc)
-given_is Input given built = absurd (cc)
-given_is Start given built = absurd (cc)
-given_is Nodes given built = absurd (cc)
-given_is Edges given built = absurd (cc)
-given_is Drives given built = absurd (cc)
+given_is UnitPages given built = there_said _ (value_of UnitPages given)
+given_is Number given built = there_said _ (value_of Number given)
+given_is Undirected given built = refl
+given_is Input given built = refl
+given_is Start given built = there_said _ (value_of Start given)
+given_is Nodes given built = there_said _ (value_of Nodes given)
+given_is Edges given built = there_said _ (value_of Edges given)
+given_is Drives given built = there_said _ (value_of Drives given)
 given_is Drive given built = absurd (cc)
 
 -- what a line says of the values of all options
@@ -190,6 +190,14 @@ line_by value = record {
   cut = said (number_within 1 18446744073709551615) (value Cut);
   each = is_some (value Each);
   quiet = is_some (value Quiet);
+  unit = said (number_within 1 256) (value UnitPages);
+  number = said (number_within 0 18446744073709551615) (value Number);
+  undirected = is_some (value Undirected);
+  input = is_some (value Input);
+  start = said (number_within 0 18446744073709551615) (value Start);
+  nodes = said (number_within 1 16777216) (value Nodes);
+  edges = said (number_within 0 67108864) (value Edges);
+  made = said (number_within 1 16) (value Drives);
   drives = 0;
 }
 
@@ -203,7 +211,15 @@ line_after given Max value = refl
 line_after given Cut value = refl
 line_after given Each value = refl
 line_after given Quiet value = refl
-line_after given option value = refl
+line_after given UnitPages value = refl
+line_after given Number value = refl
+line_after given Undirected value = refl
+line_after given Input value = refl
+line_after given Start value = refl
+line_after given Nodes value = refl
+line_after given Edges value = refl
+line_after given Drives value = refl
+line_after given Drive value = refl
 
 one_more : (given : List Given) (one : Given) → value_of one.option given ≡ None → line_of (given ++ one ∷ []) [] ≡ with_option (line_of given []) one.option one.value
 one_more given one new = (λ i. line_by (λ option. one_value option given one new i)) ∙ line_after given one.option one.value

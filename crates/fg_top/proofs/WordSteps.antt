@@ -82,3 +82,7 @@ pub drives_at : {A : Type 0} (f : A → List ℕ) (xs : List A) (place : ℕ) (l
 drives_at {A} f xs place line last =
     ap (λ (words : List (List ℕ)). with_parts line (parts_from None words)) (drop-map f place xs ∙ ap (λ (ys : List A). map f ys) (sym (take_rest xs place)))
     ∙ ended line (map f (slice_from xs place)) last
+
+-- the words from a place on, as a list and as a slice of them
+pub drop_slice : {A : Type 0} (f : A → List ℕ) (xs : List A) (place : ℕ) → drop place (map f xs) ≡ map f (slice_from xs place)
+drop_slice {A} f xs place = drop-map f place xs ∙ ap (λ (ys : List A). map f ys) (sym (take_rest xs place))

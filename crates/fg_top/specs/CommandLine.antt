@@ -11,7 +11,7 @@ use Rattle.fg_base.specs.declared.refusal.Opt.TheVariants.{Program, Source, Max,
 use Rattle.fg_base.specs.declared.refusal.WordFault.{WordFault}
 use Rattle.fg_base.specs.declared.refusal.WordFault.TheVariants.{Extra, Missing, Range}
 use Rattle.fg_top.specs.declared.words.command.Command.{Command}
-use Rattle.fg_top.specs.declared.words.command.Command.TheVariants.{Run, Ref}
+use Rattle.fg_top.specs.declared.words.command.Command.TheVariants.{Build, Run, Ref, Gen, Large}
 use Rattle.fg_top.specs.declared.words.command.ProgramName.{ProgramName}
 use Rattle.fg_top.specs.declared.words.command.ProgramName.TheVariants.{Bfs, Sssp, Rank}
 use Rattle.fg_top.specs.declared.words.command_line.CommandLine.{CommandLine}
@@ -46,7 +46,8 @@ is_same option other = is_word (name_of option) (name_of other)
 
 -- the options that are built
 abbrev pub options : List Opt
-options = Program ∷ Source ∷ Max ∷ Cut ∷ Each ∷ Quiet ∷ []
+options =
+    Program ∷ Source ∷ Max ∷ Cut ∷ Each ∷ Quiet ∷ UnitPages ∷ Number ∷ Undirected ∷ Input ∷ Start ∷ Nodes ∷ Edges ∷ Drives ∷ []
 
 -- the options and the drives, in the order in which refusals look at them
 abbrev pub table : List Opt
@@ -66,8 +67,11 @@ is_flag _ = false
 -- the command of a name, among those that are built
 abbrev pub command_of : List ℕ → Option Command
 command_of word =
+    if is_word word (codes "build") then Some Build else
     if is_word word (codes "run") then Some Run else
     if is_word word (codes "ref") then Some Ref else
+    if is_word word (codes "gen") then Some Gen else
+    if is_word word (codes "large") then Some Large else
     None
 
 -- the vertex program of a name, among those that are built
@@ -135,6 +139,14 @@ line_of given drives = record {
   cut = said (number_within 1 18446744073709551615) (value_of Cut given);
   each = is_some (value_of Each given);
   quiet = is_some (value_of Quiet given);
+  unit = said (number_within 1 256) (value_of UnitPages given);
+  number = said (number_within 0 18446744073709551615) (value_of Number given);
+  undirected = is_some (value_of Undirected given);
+  input = is_some (value_of Input given);
+  start = said (number_within 0 18446744073709551615) (value_of Start given);
+  nodes = said (number_within 1 16777216) (value_of Nodes given);
+  edges = said (number_within 0 67108864) (value_of Edges given);
+  made = said (number_within 1 16) (value_of Drives given);
   drives = length drives;
 }
 
@@ -146,7 +158,15 @@ with_option line Max value = record line { max = found (number_within 1 42949672
 with_option line Cut value = record line { cut = found (number_within 1 18446744073709551615 value) }
 with_option line Each value = record line { each = true }
 with_option line Quiet value = record line { quiet = true }
-with_option line option value = line
+with_option line UnitPages value = record line { unit = found (number_within 1 256 value) }
+with_option line Number value = record line { number = found (number_within 0 18446744073709551615 value) }
+with_option line Undirected value = record line { undirected = true }
+with_option line Input value = record line { input = true }
+with_option line Start value = record line { start = found (number_within 0 18446744073709551615 value) }
+with_option line Nodes value = record line { nodes = found (number_within 1 16777216 value) }
+with_option line Edges value = record line { edges = found (number_within 0 67108864 value) }
+with_option line Drives value = record line { made = found (number_within 1 16 value) }
+with_option line Drive value = line
 
 -- the option is there
 abbrev pub is_given : CommandLine → Opt → Bool
@@ -156,8 +176,15 @@ is_given line Max = is_there line.max
 is_given line Cut = is_there line.cut
 is_given line Each = line.each
 is_given line Quiet = line.quiet
+is_given line UnitPages = is_there line.unit
+is_given line Number = is_there line.number
+is_given line Undirected = line.undirected
+is_given line Input = line.input
+is_given line Start = is_there line.start
+is_given line Nodes = is_there line.nodes
+is_given line Edges = is_there line.edges
+is_given line Drives = is_there line.made
 is_given line Drive = nat_lt 0 line.drives
-is_given line _ = false
 
 -- the option's value isn't in its range; of drives there are 16 at most
 abbrev pub is_beyond : CommandLine → Opt → Bool
@@ -165,6 +192,12 @@ is_beyond line Program = is_out_of_range line.program
 is_beyond line Source = is_out_of_range line.source
 is_beyond line Max = is_out_of_range line.max
 is_beyond line Cut = is_out_of_range line.cut
+is_beyond line UnitPages = is_out_of_range line.unit
+is_beyond line Number = is_out_of_range line.number
+is_beyond line Start = is_out_of_range line.start
+is_beyond line Nodes = is_out_of_range line.nodes
+is_beyond line Edges = is_out_of_range line.edges
+is_beyond line Drives = is_out_of_range line.made
 is_beyond line Drive = nat_lt 16 line.drives
 is_beyond line _ = false
 
@@ -179,21 +212,66 @@ is_of_runs Quiet = true
 is_of_runs Drive = true
 is_of_runs _ = false
 
+-- the options of a build
+abbrev pub is_of_builds : Opt → Bool
+is_of_builds UnitPages = true
+is_of_builds Number = true
+is_of_builds Undirected = true
+is_of_builds Input = true
+is_of_builds Drive = true
+is_of_builds _ = false
+
+-- what says which edges are generated
+abbrev pub is_of_generating : Opt → Bool
+is_of_generating Start = true
+is_of_generating Nodes = true
+is_of_generating Edges = true
+is_of_generating _ = false
+
+-- the options of a run on generated edges: those of a run that picks a program, those of generating, and those of the
+-- drives in memory
+abbrev pub is_of_large_runs : Opt → Bool
+is_of_large_runs Program = true
+is_of_large_runs Source = true
+is_of_large_runs Max = true
+is_of_large_runs Cut = true
+is_of_large_runs UnitPages = true
+is_of_large_runs Undirected = true
+is_of_large_runs Start = true
+is_of_large_runs Nodes = true
+is_of_large_runs Edges = true
+is_of_large_runs Drives = true
+is_of_large_runs _ = false
+
 -- the command takes the option
 abbrev pub is_taken_by : Command → Opt → Bool
+is_taken_by Build option = is_of_builds option
 is_taken_by Run option = is_of_runs option
 is_taken_by Ref option = is_of_runs option
+is_taken_by Gen option = is_of_generating option
+is_taken_by Large option = is_of_large_runs option
 
--- what no run is without
+-- what no build, no run and no run on generated edges is without
+abbrev pub is_in_each_build : Opt → Bool
+is_in_each_build Drive = true
+is_in_each_build _ = false
+
 abbrev pub is_in_each_run : Opt → Bool
 is_in_each_run Program = true
 is_in_each_run Drive = true
 is_in_each_run _ = false
 
+abbrev pub is_in_each_large_run : Opt → Bool
+is_in_each_large_run Program = true
+is_in_each_large_run option = is_of_generating option
+
 -- the command needs the option
 abbrev pub is_needed_by : Command → Opt → Bool
+is_needed_by Build option = is_in_each_build option
 is_needed_by Run option = is_in_each_run option
 is_needed_by Ref option = is_in_each_run option
+is_needed_by Gen option = is_of_generating option
+is_needed_by Large option = is_in_each_large_run option
 
 -- the program has a use for the option
 abbrev pub has_use_for : ProgramName → Opt → Bool

@@ -1,6 +1,6 @@
--- How a job ends: its status, what was written, and whose count of faults rose. This is the form in which every job's
--- end is stated.
-use Rattle.std.specs.Prelude.{◌≡◌, ℕ, Option, None, Some, List, ◌++◌, ◌⊎◌, take}
+-- How a job ends: its status, what was written, whose count of faults rose, and what it leaves. This is the form in which
+-- every job's end is stated.
+use Rattle.std.specs.Prelude.{◌≡◌, ℕ, Bool, false, Option, None, Some, List, [], ◌++◌, ◌⊎◌, take}
 use Rattle.std.specs.List.{concat}
 use Rattle.fg_base.specs.Faults.{Rose}
 use Rattle.fg_base.specs.Refusal.{status_of}
@@ -8,7 +8,7 @@ use Rattle.fg_base.specs.Told.{grown, GrewByFirst}
 use Rattle.fg_base.specs.declared.refusal.Refusal.{Refusal}
 use Rattle.fg_base.specs.declared.refusal.Refusal.TheVariants.{Memory, OutputFault, DriveFault}
 use Rattle.fg_report.specs.Refusals.{refusal_line}
-use Rattle.fg_outside.specs.Drives.{NoneRose, RoseFirst}
+use Rattle.fg_outside.specs.Drives.{EachSame, NoneRose, RoseFirst}
 use Rattle.fg_top.specs.Outcome.{Close, Outcome, Done, Refuses}
 
 -- the status where nothing or this refusal ended the work and its text was written
@@ -47,27 +47,38 @@ IsCause faults olds news comes (Some (DriveFault drive)) text =
 IsCause faults olds news comes (Some refusal) text =
     NoneRose faults olds news × IsOutcome comes (Refuses refusal) (refusal_line refusal) text
 
--- the sink's counts and its texts, before and after a job
+-- the sink's counts and its texts, before and after a job, and whether it keeps bytes back afterwards
 pub record Output : Type 0 where
   pub old_faults : ℕ
   pub new_faults : ℕ
   pub old_text : Option (List ℕ)
   pub new_text : Option (List ℕ)
+  pub keeps_back : Bool
 
-abbrev pub output_between : ℕ → ℕ → Option (List ℕ) → Option (List ℕ) → Output
-output_between old_faults new_faults old_text new_text =
-    record { old_faults = old_faults; new_faults = new_faults; old_text = old_text; new_text = new_text }
+abbrev pub output_between : ℕ → ℕ → Option (List ℕ) → Option (List ℕ) → Bool → Output
+output_between old_faults new_faults old_text new_text keeps_back =
+    record { old_faults = old_faults; new_faults = new_faults; old_text = old_text; new_text = new_text; keeps_back = keeps_back }
 
--- the text was written whole and the status is that of the end; or a put failed, a first part of the text was written,
--- and the status is 4
+-- the text was written whole, nothing of it is kept back, and the status is that of the end; or a put or the flush
+-- failed, a first part of the text was written, and the status is 4
 abbrev pub IsWritten : Output → Option Refusal → List ℕ → ℕ → Type 0
 IsWritten output end text status =
-    ((output.new_faults ≡ output.old_faults) × (output.new_text ≡ grown output.old_text text) × (status ≡ status_at end))
+    ((output.new_faults ≡ output.old_faults) × (output.new_text ≡ grown output.old_text text) × (output.keeps_back ≡ false) × (status ≡ status_at end))
     ⊎ (Rose output.old_faults output.new_faults × GrewByFirst text output.old_text output.new_text × (status ≡ 4))
 
--- a job's end: what ended the work has its cause, and the text of that end was written, or a put failed
-pub record Ends {D : Type 0} (faults : D → ℕ) (olds news : List D) (comes : Outcome → Type 0) (output : Output) (status : ℕ) : Type 0 where
+-- a job's end: what ended the work has its cause, the job leaves what it leaves by that end, and the text of that end was
+-- written, or a put or the flush failed
+pub record Ends {D : Type 0} (faults : D → ℕ) (olds news : List D) (comes : Outcome → Type 0) (leaves : Option Refusal → Type 0) (output : Output) (status : ℕ) : Type 0 where
   pub end : Option Refusal
   pub text : List ℕ
   pub cause : IsCause faults olds news comes end text
+  pub left : leaves end
   pub written : IsWritten output end text status
+
+-- the same of work that has no drives
+abbrev pub EndsAlone : (Outcome → Type 0) → Output → ℕ → Type 0
+EndsAlone comes output status = Ends {D = ℕ} (λ drive. drive) [] [] comes (λ end. Unit {0}) output status
+
+-- by any end the drives hold what they held
+abbrev pub LeavesHeld : {D : Type 0} → (D → Option (List ℕ)) → List D → List D → Option Refusal → Type 0
+LeavesHeld held olds news end = EachSame held olds news

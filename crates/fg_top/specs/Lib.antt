@@ -1,9 +1,16 @@
 pub mod Asked
 pub mod AskedLaws
+pub mod BuildOutcome
+pub mod Built
 pub mod CommandLine
 pub mod Ends
+pub mod GenOutcome
+pub mod JobLeaves
+pub mod JobOutcome
 pub mod Jobs
+pub mod LargeOutcome
 pub mod Lists
+pub mod MadeDrives
 pub mod Meaning
 pub mod OnlyRead
 pub mod Outcome

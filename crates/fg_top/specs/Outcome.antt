@@ -3,7 +3,6 @@ use Rattle.std.specs.Prelude.{◌≡◌, ℕ, ◌≤◌, Bool, true, false, Opti
 use Rattle.fg_base.specs.declared.plain.Value.{Value}
 use Rattle.fg_base.specs.declared.plain.VState.{VState}
 use Rattle.fg_base.specs.declared.refusal.Refusal.{Refusal}
-use Rattle.fg_base.specs.declared.refusal.WordFault.{WordFault}
 use Rattle.fg_build.specs.declared.opened.Opened.{Opened}
 use Rattle.fg_build.specs.Answers.{MatchOpening}
 use Rattle.fg_build.specs.Opening.{graph_on, opening_of}
@@ -16,10 +15,8 @@ use Rattle.fg_report.specs.Lines.{end_line, head_line}
 use Rattle.fg_report.specs.ReportWatch.{iteration_text}
 use Rattle.fg_report.specs.Sum.{sum_line}
 use Rattle.fg_report.specs.Values.{value_lines}
-use Rattle.fg_top.specs.declared.jobs.Job.{Job}
 use Rattle.fg_top.specs.declared.jobs.Pick.{Pick}
 use Rattle.fg_top.specs.declared.jobs.Wish.{Wish}
-use Rattle.fg_top.specs.Words.{job_of}
 use Rattle.fg_walks.specs.Bfs.{bfs}
 use Rattle.fg_walks.specs.Sssp.{sssp}
 
@@ -40,9 +37,8 @@ source_of (Pick.Sssp source) = Some source
 source_of (Pick.Rank cut) = None
 
 -- what a job asks of a run
-abbrev pub wish_of : Job → Wish
-wish_of (Job.Run pick max each quiet) = record { pick = pick; max = max; each = each; quiet = quiet }
-wish_of (Job.Ref pick max each quiet) = record { pick = pick; max = max; each = each; quiet = quiet }
+abbrev pub wish_for : Pick → ℕ → Bool → Bool → Wish
+wish_for pick max each quiet = record { pick = pick; max = max; each = each; quiet = quiet }
 
 -- the run that is wished for on drives that hold these bytes
 abbrev pub run_on : Wish → Opened → List (List ℕ) → Run
@@ -110,27 +106,19 @@ abbrev pub IsOwnSource : Option ℕ → ℕ → ℕ → Type 0
 IsOwnSource None source vertices = ⊥
 IsOwnSource (Some own) source vertices = (own ≡ source) × (vertices ≤ source)
 
--- how a run may close where some drive doesn't tell its bytes: done, or refused for what drives hold, for its own source
--- or for a bad edge
-abbrev pub MayClose : Wish → Close → Type 0
-MayClose wish (Done text) = Unit {0}
-MayClose wish (Refuses (Refusal.BadSource source vertices)) = IsOwnSource (source_of wish.pick) source vertices
-MayClose wish (Refuses (Refusal.BadEdge bad)) = Unit {0}
-MayClose wish (Refuses refusal) = MatchOpening refusal ⊥ (λ drive. ⊥) (Unit {0})
+-- the first of the texts is the program's head, with the counts of some header
+abbrev pub HasHead : Pick → List (List ℕ) → Type 0
+HasHead pick lines = (header : Header) × (rest : List (List ℕ)) × (lines ≡ head_of pick header ∷ rest)
+
+-- what a run may write and how it may close where some drive doesn't tell its bytes: behind its head, done or refused for
+-- a bad edge; or, before anything was written, refused for what drives hold or for its own source
+abbrev pub MayComeTo : Wish → List (List ℕ) → Close → Type 0
+MayComeTo wish lines (Done text) = HasHead wish.pick lines
+MayComeTo wish lines (Refuses (Refusal.BadSource source vertices)) = IsOwnSource (source_of wish.pick) source vertices × (lines ≡ [])
+MayComeTo wish lines (Refuses (Refusal.BadEdge bad)) = HasHead wish.pick lines
+MayComeTo wish lines (Refuses refusal) = MatchOpening refusal ⊥ (λ drive. ⊥) (lines ≡ [])
 
 -- the run that is wished for comes to this outcome, by what the drives tell of their bytes
 abbrev pub WishComesTo : Wish → Option (List (List ℕ)) → Outcome → Type 0
-WishComesTo wish None outcome = MayClose wish outcome.close
+WishComesTo wish None outcome = MayComeTo wish outcome.lines outcome.close
 WishComesTo wish (Some helds) outcome = outcome ≡ outcome_of wish helds
-
--- the same of a job, and of what the words give
-abbrev pub JobComesTo : Job → Option (List (List ℕ)) → Outcome → Type 0
-JobComesTo job told outcome = WishComesTo (wish_of job) told outcome
-
-abbrev pub GivenComesTo : Result Job WordFault → Option (List (List ℕ)) → Outcome → Type 0
-GivenComesTo (Err fault) told outcome = outcome ≡ at_once (Refuses (Refusal.Words fault))
-GivenComesTo (Ok job) told outcome = JobComesTo job told outcome
-
--- the words come to this outcome, by what the drives tell of their bytes
-abbrev pub ComesTo : List (List ℕ) → Option (List (List ℕ)) → Outcome → Type 0
-ComesTo words told outcome = GivenComesTo (job_of words) told outcome

@@ -1,5 +1,5 @@
 -- What a job reads of its drives.
-use Rattle.std.specs.Prelude.{ℕ, Option, Result, Ok, Err, List, [], ◌++◌, ◌⊎◌, All}
+use Rattle.std.specs.Prelude.{ℕ, Option, None, Some, Result, Ok, Err, List, [], ◌++◌, ◌⊎◌, All, nat_le, if◌then◌else◌}
 use Rattle.fg_base.specs.declared.refusal.Refusal.{Refusal}
 use Rattle.fg_base.specs.declared.refusal.WordFault.{WordFault}
 use Rattle.fg_build.specs.declared.opened.Opened.{Opened}
@@ -11,7 +11,7 @@ use Rattle.fg_outside.specs.Drives.{DriveRead, LogsGrew, LogsGrewByFirst}
 use Rattle.fg_top.specs.declared.jobs.Job.{Job}
 use Rattle.fg_top.specs.Asked.{IsAsked}
 use Rattle.fg_top.specs.declared.jobs.Wish.{Wish}
-use Rattle.fg_top.specs.Outcome.{rules_of, run_on, wish_of}
+use Rattle.fg_top.specs.Outcome.{rules_of, run_on, source_of, wish_for}
 use Rattle.fg_top.specs.Words.{job_of}
 
 -- the read is of a page that the wished run asks for, on drives that hold these bytes and open so
@@ -29,20 +29,28 @@ RunReadsAll log wish helds olds news =
 abbrev pub RunReads : {D : Type 0} → (D → Option (List Read)) → Wish → List (List ℕ) → List D → List D → Type 0
 RunReads log wish helds olds news = LogsGrewByFirst log (opening_reads helds) olds news ⊎ RunReadsAll log wish helds olds news
 
--- the reads of the whole image that was opened
-abbrev pub image_reads_of : Result Opened Refusal → List DriveRead
-image_reads_of (Err refusal) = []
-image_reads_of (Ok opened) = whole_reads opened.layout
+-- the reads of the whole image that was opened, for a run with this source; none where that is no vertex
+abbrev pub sourced_reads : Opened → Option ℕ → List DriveRead
+sourced_reads opened None = whole_reads opened.layout
+sourced_reads opened (Some source) = if nat_le opened.header.n source then [] else whole_reads opened.layout
 
--- the reads of a run in memory: those of opening, and then each page of the image, ascending
-abbrev pub ref_reads : List (List ℕ) → List DriveRead
-ref_reads helds = opening_reads helds ++ image_reads_of (opening_of helds)
+-- the same by how the drives open; none where they don't
+abbrev pub image_reads_of : Wish → Result Opened Refusal → List DriveRead
+image_reads_of wish (Err refusal) = []
+image_reads_of wish (Ok opened) = sourced_reads opened (source_of wish.pick)
 
--- what the job of these words reads of drives that hold these bytes; nothing where the words are refused
+-- the reads of a run in memory: those of opening, and then, where its source is a vertex, each page of the image, ascending
+abbrev pub ref_reads : Wish → List (List ℕ) → List DriveRead
+ref_reads wish helds = opening_reads helds ++ image_reads_of wish (opening_of helds)
+
+-- what the job of these words reads of drives that hold these bytes; nothing where the words are refused, and where the job runs on no drives
 abbrev pub ReadsBy : {D : Type 0} → (D → Option (List Read)) → Result Job WordFault → List (List ℕ) → List D → List D → Type 0
 ReadsBy log (Err fault) helds olds news = LogsGrew log [] olds news
-ReadsBy log (Ok (Job.Run pick max each quiet)) helds olds news = RunReads log (wish_of (Job.Run pick max each quiet)) helds olds news
-ReadsBy log (Ok (Job.Ref pick max each quiet)) helds olds news = LogsGrewByFirst log (ref_reads helds) olds news
+ReadsBy log (Ok (Job.Build unit number undirected)) helds olds news = LogsGrew log [] olds news
+ReadsBy log (Ok (Job.Run pick max each quiet)) helds olds news = RunReads log (wish_for pick max each quiet) helds olds news
+ReadsBy log (Ok (Job.Ref pick max each quiet)) helds olds news = LogsGrewByFirst log (ref_reads (wish_for pick max each quiet) helds) olds news
+ReadsBy log (Ok (Job.Gen start nodes edges)) helds olds news = LogsGrew log [] olds news
+ReadsBy log (Ok (Job.Large pick max unit undirected start nodes edges drives)) helds olds news = LogsGrew log [] olds news
 
 abbrev pub Reads : {D : Type 0} → (D → Option (List Read)) → List (List ℕ) → List (List ℕ) → List D → List D → Type 0
 Reads log words helds olds news = ReadsBy log (job_of words) helds olds news
@@ -50,8 +58,11 @@ Reads log words helds olds news = ReadsBy log (job_of words) helds olds news
 -- what a job that is done has read: the whole opening first, and of a run in memory the whole image
 abbrev pub ReadsAllBy : {D : Type 0} → (D → Option (List Read)) → Result Job WordFault → List (List ℕ) → List D → List D → Type 0
 ReadsAllBy log (Err fault) helds olds news = ⊥
-ReadsAllBy log (Ok (Job.Run pick max each quiet)) helds olds news = RunReadsAll log (wish_of (Job.Run pick max each quiet)) helds olds news
-ReadsAllBy log (Ok (Job.Ref pick max each quiet)) helds olds news = LogsGrew log (ref_reads helds) olds news
+ReadsAllBy log (Ok (Job.Build unit number undirected)) helds olds news = LogsGrew log [] olds news
+ReadsAllBy log (Ok (Job.Run pick max each quiet)) helds olds news = RunReadsAll log (wish_for pick max each quiet) helds olds news
+ReadsAllBy log (Ok (Job.Ref pick max each quiet)) helds olds news = LogsGrew log (ref_reads (wish_for pick max each quiet) helds) olds news
+ReadsAllBy log (Ok (Job.Gen start nodes edges)) helds olds news = LogsGrew log [] olds news
+ReadsAllBy log (Ok (Job.Large pick max unit undirected start nodes edges drives)) helds olds news = LogsGrew log [] olds news
 
 abbrev pub ReadsAll : {D : Type 0} → (D → Option (List Read)) → List (List ℕ) → List (List ℕ) → List D → List D → Type 0
 ReadsAll log words helds olds news = ReadsAllBy log (job_of words) helds olds news

@@ -14,7 +14,7 @@ use Rattle.fg_top.specs.declared.jobs.JobFault.{JobFault}
 use Rattle.fg_top.specs.declared.jobs.Pick.{Pick}
 use Rattle.fg_top.specs.declared.jobs.Wish.{Wish}
 use Rattle.fg_top.specs.Ends.{IsWritten, Output}
-use Rattle.fg_top.specs.Outcome.{MayClose, Outcome, rules_of, run_close, source_of, text_of, values_or_sum}
+use Rattle.fg_top.specs.Outcome.{Close, Done, Outcome, Refuses, rules_of, run_close, source_of, text_of, values_or_sum}
 
 -- the refusal of words that give no job
 abbrev pub words_refusal : JobFault → Refusal
@@ -36,9 +36,15 @@ behind_head rules wish run = record {
   close = run_close wish.quiet rules.show run.ending run.iterations run.states;
 }
 
+-- how a run may close behind its head where nothing is told of it: done, or refused for a bad edge
+abbrev pub MayClose : Close → Type 0
+MayClose (Done text) = Unit {0}
+MayClose (Refuses (Refusal.BadEdge bad)) = Unit {0}
+MayClose (Refuses refusal) = ⊥
+
 -- behind its head the run comes to this outcome, by what is told of it
 abbrev pub RunComesTo : {A : Type 0} → Rules → Wish → Option A → (A → Run) → Outcome → Type 0
-RunComesTo rules wish None run_of outcome = MayClose wish outcome.close
+RunComesTo rules wish None run_of outcome = MayClose outcome.close
 RunComesTo rules wish (Some told) run_of outcome = outcome ≡ behind_head rules wish (run_of told)
 
 -- the last text of a run with an end

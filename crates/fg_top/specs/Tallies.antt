@@ -1,13 +1,15 @@
 -- How a job raises the tally.
-use Rattle.std.specs.Prelude.{◌≡◌, ℕ, ◌+◌, Result, Ok, Err, List}
+use Rattle.std.specs.Prelude.{◌≡◌, ℕ, ◌+◌, true, false, Result, Ok, Err, List}
 use Rattle.fg_base.specs.declared.refusal.Refusal.{Refusal}
 use Rattle.fg_base.specs.declared.refusal.WordFault.{WordFault}
 use Rattle.fg_build.specs.declared.opened.Opened.{Opened}
 use Rattle.fg_build.specs.Opening.{opening_of}
+use Rattle.fg_model.specs.Edges.{EdgeList}
 use Rattle.fg_model.specs.Run.{Run, entries_of, runs_of}
 use Rattle.fg_top.specs.declared.jobs.Job.{Job}
 use Rattle.fg_top.specs.declared.jobs.Wish.{Wish}
-use Rattle.fg_top.specs.Outcome.{run_on, wish_of}
+use Rattle.fg_top.specs.LargeOutcome.{generated, recipe_for, run_on_edges}
+use Rattle.fg_top.specs.Outcome.{run_on, wish_for}
 use Rattle.fg_top.specs.Words.{job_of}
 
 -- the tally's two numbers before and after a job
@@ -36,20 +38,32 @@ abbrev pub RoseByWish : Wish → List (List ℕ) → Result Opened Refusal → T
 RoseByWish wish helds (Err refusal) tally = ⊥
 RoseByWish wish helds (Ok opened) tally = RoseByRun (run_on wish opened helds) tally
 
--- what a job that is done did to the tally: a run raised it, a run in memory left it
+-- they rose by the wished run on the edges that a generated text says
+abbrev pub RoseByEdges : Wish → Result EdgeList Refusal → Tallied → Type 0
+RoseByEdges wish (Err refusal) tally = ⊥
+RoseByEdges wish (Ok edges) tally = RoseByRun (run_on_edges wish edges) tally
+
+-- what a job that is done did to the tally: a run over drives raised it, any other job left it
 abbrev pub IsTalliedBy : Result Job WordFault → List (List ℕ) → Tallied → Type 0
 IsTalliedBy (Err fault) helds tally = ⊥
-IsTalliedBy (Ok (Job.Run pick max each quiet)) helds tally = RoseByWish (wish_of (Job.Run pick max each quiet)) helds (opening_of helds) tally
+IsTalliedBy (Ok (Job.Build unit number undirected)) helds tally = Stood tally
+IsTalliedBy (Ok (Job.Run pick max each quiet)) helds tally = RoseByWish (wish_for pick max each quiet) helds (opening_of helds) tally
 IsTalliedBy (Ok (Job.Ref pick max each quiet)) helds tally = Stood tally
+IsTalliedBy (Ok (Job.Gen start nodes edges)) helds tally = Stood tally
+IsTalliedBy (Ok (Job.Large pick max unit undirected start nodes edges drives)) helds tally =
+    RoseByEdges (wish_for pick max false true) (generated (recipe_for start nodes edges undirected)) tally
 
 abbrev pub IsTallied : List (List ℕ) → List (List ℕ) → Tallied → Type 0
 IsTallied words helds tally = IsTalliedBy (job_of words) helds tally
 
--- what any end does to the tally where the job doesn't run on drives: it stands
+-- what any end does to the tally where the job doesn't run over drives: it stands
 abbrev pub StandsBy : Result Job WordFault → Tallied → Type 0
 StandsBy (Err fault) tally = Stood tally
+StandsBy (Ok (Job.Build unit number undirected)) tally = Stood tally
 StandsBy (Ok (Job.Run pick max each quiet)) tally = Unit {0}
 StandsBy (Ok (Job.Ref pick max each quiet)) tally = Stood tally
+StandsBy (Ok (Job.Gen start nodes edges)) tally = Stood tally
+StandsBy (Ok (Job.Large pick max unit undirected start nodes edges drives)) tally = Unit {0}
 
 abbrev pub Stands : List (List ℕ) → Tallied → Type 0
 Stands words tally = StandsBy (job_of words) tally

@@ -1,6 +1,6 @@
 //! The work of a run over the whole graph in memory.
 
-ghost use Rattle.std.specs.Prelude.{◌≡◌, ◌≤◌, ◌≢◌, ℕ, [], IfErr, IfOk, IfSome, OnOk, Some, length};
+ghost use Rattle.std.specs.Prelude.{◌≡◌, ◌≤◌, ◌≢◌, IfErr, IfOk, IfSome, OnOk, Some, length};
 ghost use Rattle.fg_base.specs.declared.limits.TheConstants.{MAX_DRIVES};
 ghost use Rattle.fg_base.specs.declared.refusal.Refusal.TheVariants.{OutputFault as output_fault};
 ghost use Rattle.fg_build.specs.Answers.{HoldWhole, OpenedFits, ReadCounts};
@@ -9,7 +9,7 @@ ghost use Rattle.fg_build.specs.OpeningReads.{whole_reads};
 ghost use Rattle.fg_model.specs.Graph.{IsWithinLimits};
 ghost use Rattle.fg_outside.specs.Drives.{EachSame, LogsGrew, LogsGrewByFirst, NoneRose, RoomyKept, all_told};
 ghost use Rattle.fg_report.specs.Refusals.{refusal_line};
-ghost use Rattle.fg_top.specs.Ends.{Ends, IsCause, output_between};
+ghost use Rattle.fg_top.specs.Ends.{Ends, EndsAlone, IsCause, LeavesHeld, output_between};
 ghost use Rattle.fg_top.specs.Meaning.{MeansWish};
 ghost use Rattle.fg_top.specs.Outcome.{WishComesTo, outcome_of, rules_of, run_outcome};
 ghost use Rattle.fg_top.specs.Reads.{ref_reads};
@@ -64,9 +64,9 @@ fn report_run<P: Program, K: Sink>(
 ) -> u8
     requires picked { P.rules program.now ≡ rules_of wish.pick }
     requires within { IsWithinLimits graph.now }
-    ensures { Ends {D = ℕ} (λ drive. drive) [] []
+    ensures { EndsAlone
         (RunComesTo (rules_of wish.pick) wish (Some graph.now) (run_in wish))
-        (output_between (K.faults out.old) (K.faults out.new) (K.written out.old) (K.written out.new)) result }
+        (output_between (K.faults out.old) (K.faults out.new) (K.written out.old) (K.written out.new) (K.keeps_back out.new)) result }
 {
     let mut watch = ReportWatch {
         program,
@@ -81,9 +81,9 @@ fn report_run<P: Program, K: Sink>(
 /// The same of whichever program is picked.
 fn run_picked<K: Sink>(alloc: Global, wish: Wish, graph: &Graph, out: &mut K) -> u8
     requires { IsWithinLimits graph.now }
-    ensures { Ends {D = ℕ} (λ drive. drive) [] []
+    ensures { EndsAlone
         (RunComesTo (rules_of wish.pick) wish (Some graph.now) (run_in wish))
-        (output_between (K.faults out.old) (K.faults out.new) (K.written out.old) (K.written out.new)) result }
+        (output_between (K.faults out.old) (K.faults out.new) (K.written out.old) (K.written out.new) (K.keeps_back out.new)) result }
 {
     match wish.pick {
         Pick::Bfs(source) => report_run(alloc, &Bfs { source }, wish, graph, out),
@@ -108,8 +108,8 @@ fn load<D: Drive>(alloc: Global, wish: Wish, drives: &mut Vec<D>) -> Result<Load
     ensures cause { IfErr result (λ refusal. IsCause D.faults drives.old.items drives.new.items (WishComesTo wish (all_told D.held drives.old.items)) (Some refusal) (refusal_line refusal)) }
     ensures not_output { IfErr result (λ refusal. refusal ≢ output_fault) }
     ensures means { OnOk result (IfSome (all_told D.held drives.old.items) (λ helds. MeansWish wish helds (opening_of helds))) }
-    ensures reads { IfSome (all_told D.held drives.old.items) (λ helds. LogsGrewByFirst D.log (ref_reads helds) drives.old.items drives.new.items) }
-    ensures all_read { OnOk result (IfSome (all_told D.held drives.old.items) (λ helds. LogsGrew D.log (ref_reads helds) drives.old.items drives.new.items)) }
+    ensures reads { IfSome (all_told D.held drives.old.items) (λ helds. LogsGrewByFirst D.log (ref_reads wish helds) drives.old.items drives.new.items) }
+    ensures all_read { OnOk result (IfSome (all_told D.held drives.old.items) (λ helds. LogsGrew D.log (ref_reads wish helds) drives.old.items drives.new.items)) }
     ensures held { EachSame D.held drives.old.items drives.new.items }
     ensures sure { RoomyKept D.room D.faults drives.old.items drives.new.items }
 {
@@ -133,12 +133,13 @@ pub fn ref_job<D: Drive, K: Sink>(alloc: Global, wish: Wish, drives: &mut Vec<D>
     requires few { length drives.old.items ≤ MAX_DRIVES }
     ensures ends { Ends D.faults drives.old.items drives.new.items
         (WishComesTo wish (all_told D.held drives.old.items))
-        (output_between (K.faults out.old) (K.faults out.new) (K.written out.old) (K.written out.new)) result }
+        (LeavesHeld D.held drives.old.items drives.new.items)
+        (output_between (K.faults out.old) (K.faults out.new) (K.written out.old) (K.written out.new) (K.keeps_back out.new)) result }
     ensures drives { EachSame D.held drives.old.items drives.new.items }
     ensures sure { RoomyKept D.room D.faults drives.old.items drives.new.items }
-    ensures reads { IfSome (all_told D.held drives.old.items) (λ helds. LogsGrewByFirst D.log (ref_reads helds) drives.old.items drives.new.items) }
+    ensures reads { IfSome (all_told D.held drives.old.items) (λ helds. LogsGrewByFirst D.log (ref_reads wish helds) drives.old.items drives.new.items) }
     ensures means { result ≡ 0 → IfSome (all_told D.held drives.old.items) (λ helds. MeansWish wish helds (opening_of helds)) }
-    ensures all_read { result ≡ 0 → IfSome (all_told D.held drives.old.items) (λ helds. LogsGrew D.log (ref_reads helds) drives.old.items drives.new.items) }
+    ensures all_read { result ≡ 0 → IfSome (all_told D.held drives.old.items) (λ helds. LogsGrew D.log (ref_reads wish helds) drives.old.items drives.new.items) }
 {
     let Loaded { header, graph } = match load(alloc, wish, drives) {
         Ok(loaded) => loaded,

@@ -2,7 +2,6 @@
 
 ghost use Rattle.std.specs.Prelude.{◌≡◌};
 ghost use Rattle.fg_top.specs.Jobs.{is_still};
-ghost use Rattle.fg_top.specs.Outcome.{wish_of};
 
 use fg_base::WordFault;
 
@@ -17,6 +16,13 @@ pub enum Pick {
 /// What the words ask for.
 #[derive(Clone, Copy, PartialEq, Eq, Debug)]
 pub enum Job {
+    /// The image of a text's edges is built over the drives, in units of `unit` pages, from 1 to 256.
+    Build {
+        unit: u32,
+        number: u64,
+        /// Whether each edge of the text counts both ways.
+        undirected: bool,
+    },
     /// A run of the program over the drives, of at most `max` iterations, from 1.
     Run {
         pick: Pick,
@@ -33,6 +39,23 @@ pub enum Job {
         each: bool,
         quiet: bool,
     },
+    /// A text of generated edges is written, of at most 2^26 edges between 1 to 2^24 vertices.
+    Gen {
+        start: u64,
+        nodes: u32,
+        edges: u32,
+    },
+    /// A run on such edges, whose image is built on 1 to 16 drives in memory first.
+    Large {
+        pick: Pick,
+        max: u32,
+        unit: u32,
+        undirected: bool,
+        start: u64,
+        nodes: u32,
+        edges: u32,
+        drives: u32,
+    },
 }
 
 impl Job {
@@ -41,33 +64,8 @@ impl Job {
         ensures { result ≡ is_still self.now }
     {
         match self {
-            Job::Run { .. } => false,
-            Job::Ref { .. } => true,
-        }
-    }
-
-    /// What the job asks of a run.
-    pub fn wish(&self) -> Wish
-        ensures { result ≡ wish_of self.now }
-    {
-        match *self {
-            Job::Run {
-                pick,
-                max,
-                each,
-                quiet,
-            }
-            | Job::Ref {
-                pick,
-                max,
-                each,
-                quiet,
-            } => Wish {
-                pick,
-                max,
-                each,
-                quiet,
-            },
+            Job::Run { .. } | Job::Large { .. } => false,
+            Job::Build { .. } | Job::Ref { .. } | Job::Gen { .. } => true,
         }
     }
 }
@@ -80,6 +78,15 @@ pub struct Wish {
     pub max: u32,
     pub each: bool,
     pub quiet: bool,
+}
+
+/// How edges are generated: from this number, between so many vertices, so many of them, and whether each counts both ways.
+#[derive(Clone, Copy, PartialEq, Eq, Debug)]
+pub struct Recipe {
+    pub start: u64,
+    pub nodes: u32,
+    pub edges: u32,
+    pub undirected: bool,
 }
 
 /// Why the words give no job.

@@ -1,6 +1,6 @@
 //! What a job writes besides the lines of its iterations.
 
-ghost use Rattle.std.specs.Prelude.{◌≡◌, ◌≢◌, ◌≤◌, ◌^◌, ◌++◌, Contains, IfOk, OnErr, OnOk, Some, length};
+ghost use Rattle.std.specs.Prelude.{◌≡◌, ◌≢◌, ◌≤◌, ◌^◌, ◌++◌, Contains, IfOk, OnErr, OnOk, Some, false, length};
 ghost use Rattle.fg_base.specs.Faults.{Counts};
 ghost use Rattle.fg_base.specs.Told.{grown, GrewByFirst};
 ghost use Rattle.fg_base.specs.declared.refusal.Refusal.TheVariants.{OutputFault as output_fault};
@@ -29,10 +29,12 @@ pub fn refusal_of_words(fault: JobFault) -> Refusal
 }
 
 /// Writes a refusal's line as the last of a job's text, and hands on all that the output gathered.
+#[tactic(auto, using(crate::proofs::FlushLemmas::whole_is_part))]
 fn write_refused<K: Sink>(out: &mut K, refusal: &Refusal) -> Result<(), Failed>
     requires { refusal.now ≢ output_fault }
     ensures whole { OnOk result (K.written out.new ≡ grown (K.written out.old) (refusal_line refusal.now)) }
     ensures part { OnErr result (GrewByFirst (refusal_line refusal.now) (K.written out.old) (K.written out.new)) }
+    ensures handed { OnOk result (K.keeps_back out.new ≡ false) }
     ensures counted { Counts (K.faults out.old) (K.faults out.new) result }
 {
     if let Err(failed) = write_refusal(out, refusal) {
@@ -41,10 +43,10 @@ fn write_refused<K: Sink>(out: &mut K, refusal: &Refusal) -> Result<(), Failed>
     out.flush()
 }
 
-/// Writes a refusal's line; the status is the refusal's, or the output's where a put fails.
+/// Writes a refusal's line; the status is the refusal's, or the output's where a put or the flush fails.
 pub fn refuse<K: Sink>(out: &mut K, refusal: Refusal) -> u8
     requires { refusal ≢ output_fault }
-    ensures { IsWritten (output_between (K.faults out.old) (K.faults out.new) (K.written out.old) (K.written out.new)) (Some refusal) (refusal_line refusal) result }
+    ensures { IsWritten (output_between (K.faults out.old) (K.faults out.new) (K.written out.old) (K.written out.new) (K.keeps_back out.new)) (Some refusal) (refusal_line refusal) result }
 {
     if let Err(_) = write_refused(out, &refusal) {
         return Refusal::OutputFault.status();
@@ -99,6 +101,7 @@ fn write_values_or_sum<P: Program, K: Sink>(
 }
 
 /// Writes the values of these states, or their sum, as the last of a job's text, and hands on all that the output gathered.
+#[tactic(auto, using(crate::proofs::FlushLemmas::whole_is_part))]
 fn write_closing<P: Program, K: Sink>(
     out: &mut K,
     program: &P,
@@ -108,6 +111,7 @@ fn write_closing<P: Program, K: Sink>(
     requires { length states.now ≤ 2 ^ 32 }
     ensures whole { OnOk result (K.written out.new ≡ grown (K.written out.old) (values_or_sum quiet (P.rules program.now).show states.now)) }
     ensures part { OnErr result (GrewByFirst (values_or_sum quiet (P.rules program.now).show states.now) (K.written out.old) (K.written out.new)) }
+    ensures handed { OnOk result (K.keeps_back out.new ≡ false) }
     ensures counted { Counts (K.faults out.old) (K.faults out.new) result }
 {
     if let Err(failed) = write_values_or_sum(out, program, quiet, states) {
@@ -127,6 +131,7 @@ fn write_last<P: Program, K: Sink>(
     requires { length end.now.states ≤ 2 ^ 32 }
     ensures whole { OnOk result (K.written out.new ≡ grown (K.written out.old) (last_text quiet (P.rules program.now).show end.now)) }
     ensures part { OnErr result (GrewByFirst (last_text quiet (P.rules program.now).show end.now) (K.written out.old) (K.written out.new)) }
+    ensures handed { OnOk result (K.keeps_back out.new ≡ false) }
     ensures counted { Counts (K.faults out.old) (K.faults out.new) result }
 {
     if let Err(failed) = write_end(out, end.settled, end.iterations) {
@@ -137,7 +142,7 @@ fn write_last<P: Program, K: Sink>(
 
 /// Writes the line of what refused a run, and nothing where a put has failed already. The answer is the status.
 fn refuse_run<K: Sink>(out: &mut K, fault: RunFault) -> u8
-    ensures { IsRunRefused (output_between (K.faults out.old) (K.faults out.new) (K.written out.old) (K.written out.new)) fault result }
+    ensures { IsRunRefused (output_between (K.faults out.old) (K.faults out.new) (K.written out.old) (K.written out.new) (K.keeps_back out.new)) fault result }
 {
     match fault {
         RunFault::Memory => refuse(out, Refusal::Memory),
@@ -156,7 +161,7 @@ pub fn close_run<P: Program, K: Sink>(
     answer: Result<End, RunFault>,
 ) -> u8
     requires { IfOk answer (λ end. length end.states ≤ 2 ^ 32) }
-    ensures { IsClosed quiet (P.rules program.now).show (output_between (K.faults out.old) (K.faults out.new) (K.written out.old) (K.written out.new)) answer result }
+    ensures { IsClosed quiet (P.rules program.now).show (output_between (K.faults out.old) (K.faults out.new) (K.written out.old) (K.written out.new) (K.keeps_back out.new)) answer result }
 {
     let end = match answer {
         Ok(end) => end,

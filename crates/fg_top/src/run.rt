@@ -5,7 +5,7 @@ ghost use Rattle.fg_base.specs.declared.limits.TheConstants.{MAX_DRIVES};
 ghost use Rattle.fg_build.specs.Answers.{HoldWhole, OpenedFits};
 ghost use Rattle.fg_build.specs.Opening.{opening_of};
 ghost use Rattle.fg_outside.specs.Drives.{EachSame, LogsGrewBy, RoomyKept, all_told};
-ghost use Rattle.fg_top.specs.Ends.{Ends, output_between};
+ghost use Rattle.fg_top.specs.Ends.{Ends, LeavesHeld, output_between};
 ghost use Rattle.fg_top.specs.Meaning.{MeansWish};
 ghost use Rattle.fg_top.specs.Outcome.{WishComesTo, rules_of, run_on};
 ghost use Rattle.fg_top.specs.Reads.{IsAskedBy, RunReads, RunReadsAll};
@@ -52,7 +52,8 @@ fn report_run<P: Program, D: Drive, K: Sink, T: Tally>(
     ensures reads { IfSome (all_told D.held drives.items) (λ helds. LogsGrewBy (IsAskedBy wish helds (Ok opened)) D.log drives.items result.drives.items) }
     ensures ends { Ends D.faults drives.items result.drives.items
         (RunComesTo (rules_of wish.pick) wish (all_told D.held drives.items) (run_on wish opened))
-        (output_between (K.faults out.old) (K.faults out.new) (K.written out.old) (K.written out.new)) result.status }
+        (LeavesHeld D.held drives.items result.drives.items)
+        (output_between (K.faults out.old) (K.faults out.new) (K.written out.old) (K.written out.new) (K.keeps_back out.new)) result.status }
     ensures tally { result.status ≡ 0 → IfSome (all_told D.held drives.items) (λ helds. RoseByRun (run_on wish opened helds) (tallied (T.runs tally.old) (T.runs tally.new) (T.entries tally.old) (T.entries tally.new))) }
 {
     let mut watch = ReportWatch {
@@ -89,7 +90,8 @@ fn run_picked<D: Drive, K: Sink, T: Tally>(
     ensures reads { IfSome (all_told D.held drives.items) (λ helds. LogsGrewBy (IsAskedBy wish helds (Ok opened)) D.log drives.items result.drives.items) }
     ensures ends { Ends D.faults drives.items result.drives.items
         (RunComesTo (rules_of wish.pick) wish (all_told D.held drives.items) (run_on wish opened))
-        (output_between (K.faults out.old) (K.faults out.new) (K.written out.old) (K.written out.new)) result.status }
+        (LeavesHeld D.held drives.items result.drives.items)
+        (output_between (K.faults out.old) (K.faults out.new) (K.written out.old) (K.written out.new) (K.keeps_back out.new)) result.status }
     ensures tally { result.status ≡ 0 → IfSome (all_told D.held drives.items) (λ helds. RoseByRun (run_on wish opened helds) (tallied (T.runs tally.old) (T.runs tally.new) (T.entries tally.old) (T.entries tally.new))) }
 {
     match wish.pick {
@@ -117,7 +119,8 @@ pub fn run_job<D: Drive, K: Sink, T: Tally>(
     requires room_of_entries { T.entries tally.old ≤ 2 ^ 62 }
     ensures ends { Ends D.faults drives.old.items drives.new.items
         (WishComesTo wish (all_told D.held drives.old.items))
-        (output_between (K.faults out.old) (K.faults out.new) (K.written out.old) (K.written out.new)) result }
+        (LeavesHeld D.held drives.old.items drives.new.items)
+        (output_between (K.faults out.old) (K.faults out.new) (K.written out.old) (K.written out.new) (K.keeps_back out.new)) result }
     ensures drives { EachSame D.held drives.old.items drives.new.items }
     ensures sure { RoomyKept D.room D.faults drives.old.items drives.new.items }
     ensures reads { IfSome (all_told D.held drives.old.items) (λ helds. RunReads D.log wish helds drives.old.items drives.new.items) }

@@ -1,7 +1,7 @@
 //! The words of the command line, read by hand: COMMAND, then options, then drives.
 
-ghost use Rattle.std.specs.Prelude.{◌≡◌, ◌≢◌, Err, map, string_bytes, IsNone, IfOk, IfErr, length};
-ghost use Rattle.fg_top.specs.Words.{job_of, names_of, IsJobOf};
+ghost use Rattle.std.specs.Prelude.{◌≡◌, ◌≢◌, Err, map, string_bytes, option_map, IfOk, IfErr, length};
+ghost use Rattle.fg_top.specs.Words.{input_of, job_of, names_of, IsJobOf};
 
 mod command;
 mod command_line;
@@ -12,7 +12,7 @@ mod tests;
 
 use crate::jobs::{Job, JobFault};
 use command::Command;
-use command_line::CommandLine;
+use command_line::{CommandLine, input_among};
 use fg_base::{Memory, Opt, WordFault};
 use std::alloc::Global;
 
@@ -42,9 +42,9 @@ fn accept(words: &[String]) -> Result<Accepted, WordFault>
     if let Some(fault) = line.fault(command) {
         return Err(fault);
     }
-    match line.pick() {
-        Some(pick) => Ok(Accepted {
-            job: line.job(command, pick),
+    match line.job(command) {
+        Some(job) => Ok(Accepted {
+            job,
             drives: line.drives,
         }),
         None => Err(WordFault::Range(Opt::Program)),
@@ -83,16 +83,34 @@ fn copies(alloc: Global, words: &[String]) -> Result<Vec<String>, Memory>
     Ok(copies)
 }
 
-/// The names of the drives that an accepted job works on, from 1 to 16, and none where the words are refused.
+/// The names of the drives that an accepted job works on, from 1 to 16, and none where it names none or where the words are
+/// refused.
 pub fn drive_names(alloc: Global, words: &Vec<String>) -> Result<Vec<String>, Memory>
     ensures { IfOk result (λ names. map string_bytes names.items ≡ names_of (map string_bytes words.now.items)) }
 {
     copies(alloc, names(words.as_slice()))
 }
 
-/// The name of the file that an accepted job reads as its input: no job reads one yet.
-pub fn input_name(_alloc: Global, _words: &Vec<String>) -> Result<Option<String>, Memory>
-    ensures { IfOk result (λ name. IsNone name) }
+/// The value of `--input` of an accepted job.
+fn input(words: &[String]) -> Option<&String>
+    ensures { option_map (λ name. string_bytes name.now) result ≡ input_of (map string_bytes words.now) }
 {
-    Ok(None)
+    if accept(words).is_err() {
+        return None;
+    }
+    let [_, others @ ..] = words else {
+        return None;
+    };
+    input_among(others)
+}
+
+/// The name of the file that an accepted job reads in place of the program's input: `None` where it names none, and where
+/// the words are refused.
+pub fn input_name(alloc: Global, words: &Vec<String>) -> Result<Option<String>, Memory>
+    ensures { IfOk result (λ name. option_map string_bytes name ≡ input_of (map string_bytes words.now.items)) }
+{
+    match input(words.as_slice()) {
+        Some(name) => Ok(Some(name.clone()?)),
+        None => Ok(None),
+    }
 }

@@ -1,54 +1,160 @@
-use Rattle.std.proofs.Common.{◌≡◌, IsSome, Some, map, string_bytes, refl, subst}
+use Rattle.std.proofs.Common.{[], true, false, IfSome, Some, Ok, Result, map, length, string_bytes, subst, sym}
 use Rattle.fg_base.specs.declared.refusal.Refusal.{Refusal}
-use Rattle.fg_outside.specs.Drives.{all_told}
-use Rattle.fg_outside.proofs.DriveLemmas.{EachDrive-same}
+use Rattle.fg_base.specs.declared.refusal.WordFault.{WordFault}
+use Rattle.fg_outside.specs.Drives.{LogsGrew, all_told}
+use Rattle.fg_outside.proofs.DriveLemmas.{LogsGrew-none}
 use Rattle.fg_report.specs.Refusals.{refusal_line}
-use Rattle.fg_top.specs.Ends.{IsWritten, output_between}
+use Rattle.fg_top.specs.declared.jobs.Job.{Job}
+use Rattle.fg_top.specs.BuildOutcome.{input_over}
+use Rattle.fg_top.specs.Ends.{Ends, IsWritten, LeavesHeld, output_between}
+use Rattle.fg_top.specs.JobLeaves.{DoneBy, LeavesAt}
+use Rattle.fg_top.specs.JobOutcome.{JobComesTo}
+use Rattle.fg_top.specs.Jobs.{AreDrives, HasDrives, JobFits}
+use Rattle.fg_top.specs.LargeOutcome.{LargeComesTo, recipe_for}
+use Rattle.fg_top.specs.Outcome.{wish_for}
+use Rattle.fg_top.specs.Reads.{ReadsAllBy}
 use Rattle.fg_top.specs.Words.{job_of}
-use Rattle.fg_top.proofs.FlashLemmas.{drives_fit, ends_given, ends_unread, ends_wished, reads_nothing}
+use Rattle.fg_top.proofs.EndLemmas.{ends_in_memory}
+use Rattle.fg_top.proofs.FlashLemmas.{always, counts_nothing, drives_fit, ends_given, ends_unread, generates_nothing, held_same, keeps_nothing, leaves_nothing, reads_nothing, takes_nothing}
+use Rattle.fg_top.proofs.WordJobs.{accepted_fits}
 use Rattle.fg_top.proofs.flash.Goals as goal
 
 pub returns-in-Err-clause-ends : goal.returns-in-Err-clause-ends
 returns-in-Err-clause-ends g c =
-    let output = output_between (g.K.Sink.faults c.args.out.now) (g.K.Sink.faults c.refuse.new.out) (g.K.Sink.written c.args.out.now) (g.K.Sink.written c.refuse.new.out) in
+    let output = output_between (g.K.Sink.faults c.args.out.now) (g.K.Sink.faults c.refuse.new.out) (g.K.Sink.written c.args.out.now) (g.K.Sink.written c.refuse.new.out) (g.K.Sink.keeps_back c.refuse.new.out) in
     let Is : Refusal → Type 0 = λ refusal. IsWritten output (Some refusal) (refusal_line refusal) c.refuse.result in
-    ends_unread g.D.Drive.faults (map string_bytes c.args.words.now.items) (all_told g.D.Drive.held c.args.drives.now.items) c.in-Err.fault c.args.drives.now.items output c.refuse.result
-    c.in-Err.ensures.job (subst Is c.refusal_of_words.ensures.refusal c.refuse.ensures)
+    let olds = c.args.drives.now.items in
+    ends_unread g.D.Drive.held g.D.Drive.faults (map string_bytes c.args.words.now.items) (length olds) (all_told g.D.Drive.held olds) (g.S.Source.left c.args.input.now) (g.S.Source.faults c.args.input.now)
+    c.in-Err.fault olds output c.refuse.result c.in-Err.ensures.job (subst Is c.refusal_of_words.ensures.refusal c.refuse.ensures)
+
+pub returns-in-Err-clause-generated : goal.returns-in-Err-clause-generated
+returns-in-Err-clause-generated g c =
+    generates_nothing (map string_bytes c.args.words.now.items) c.in-Err.fault
+    (output_between (g.K.Sink.faults c.args.out.now) (g.K.Sink.faults c.refuse.new.out) (g.K.Sink.written c.args.out.now) (g.K.Sink.written c.refuse.new.out) (g.K.Sink.keeps_back c.refuse.new.out))
+    c.refuse.result c.in-Err.ensures.job c.in-Err.ensures.takes_no_memory
 
 pub returns-in-Err-clause-drives : goal.returns-in-Err-clause-drives
-returns-in-Err-clause-drives g c = EachDrive-same (λ old new. g.D.Drive.held new ≡ g.D.Drive.held old) (λ drive. refl) c.args.drives.now.items
+returns-in-Err-clause-drives g c =
+    leaves_nothing g.D.Drive.held g.D.Drive.faults (job_of (map string_bytes c.args.words.now.items)) (input_over (g.S.Source.left c.args.input.now) (g.S.Source.faults c.args.input.now) (g.S.Source.faults c.args.input.now)) c.args.drives.now.items
+
+pub returns-in-Err-clause-undone : goal.returns-in-Err-clause-undone
+returns-in-Err-clause-undone g c = λ not_zero not_four not_five. held_same g.D.Drive.held c.args.drives.now.items
 
 pub returns-in-Err-clause-sure : goal.returns-in-Err-clause-sure
 returns-in-Err-clause-sure g c =
-    EachDrive-same (λ old new. IsSome (g.D.Drive.room old) → g.D.Drive.faults new ≡ g.D.Drive.faults old) (λ drive told. refl) c.args.drives.now.items
+    keeps_nothing g.D.Drive.room g.D.Drive.faults (job_of (map string_bytes c.args.words.now.items)) (g.S.Source.left c.args.input.now) c.args.drives.now.items
 
 pub returns-in-Err-clause-reads : goal.returns-in-Err-clause-reads
 returns-in-Err-clause-reads g c =
     reads_nothing g.D.Drive.log (job_of (map string_bytes c.args.words.now.items)) (all_told g.D.Drive.held c.args.drives.now.items) c.args.drives.now.items
 
+pub returns-in-Err-clause-input : goal.returns-in-Err-clause-input
+returns-in-Err-clause-input g c = takes_nothing (job_of (map string_bytes c.args.words.now.items)) (g.S.Source.left c.args.input.now)
+
+pub returns-in-Err-clause-input_faults : goal.returns-in-Err-clause-input_faults
+returns-in-Err-clause-input_faults g c = counts_nothing (job_of (map string_bytes c.args.words.now.items)) (g.S.Source.faults c.args.input.now) c.refuse.result
+
+pub still-requires-clause-fits : goal.still-requires-clause-fits
+still-requires-clause-fits g c = accepted_fits (map string_bytes c.args.words.now.items) c.in-Ok.job c.in-Ok.ensures.job
+
+pub still-requires-clause-has_drives : goal.still-requires-clause-has_drives
+still-requires-clause-has_drives g c =
+    drives_fit c.args.drives.now.items (map string_bytes c.args.words.now.items) c.in-Ok.job c.requires.named c.in-Ok.ensures.job
+
+pub returns-then-is_still-clause-ends : goal.returns-then-is_still-clause-ends
+returns-then-is_still-clause-ends g c =
+    let olds = c.args.drives.now.items in
+    ends_given g.D.Drive.held g.D.Drive.faults (map string_bytes c.args.words.now.items) (length olds) (all_told g.D.Drive.held olds)
+    (input_over (g.S.Source.left c.args.input.now) (g.S.Source.faults c.args.input.now) (g.S.Source.faults c.still.new.input)) c.in-Ok.job olds c.still.new.drives.items
+    (output_between (g.K.Sink.faults c.args.out.now) (g.K.Sink.faults c.still.new.out) (g.K.Sink.written c.args.out.now) (g.K.Sink.written c.still.new.out) (g.K.Sink.keeps_back c.still.new.out)) c.still.result
+    c.in-Ok.ensures.job c.still.ensures.ends
+
 pub run_job-requires-clause-some : goal.run_job-requires-clause-some
 run_job-requires-clause-some g c =
-    (drives_fit c.args.drives.now.items (map string_bytes c.args.words.now.items) c.in-Ok.job c.requires.named c.in-Ok.ensures.job).0
+    let P : Job → Type 0 = λ job. HasDrives job (length c.args.drives.now.items) in
+    let has : AreDrives (length c.args.drives.now.items) =
+    subst P c.in-Run.is (drives_fit c.args.drives.now.items (map string_bytes c.args.words.now.items) c.in-Ok.job c.requires.named c.in-Ok.ensures.job) in
+    has.0
 
 pub run_job-requires-clause-few : goal.run_job-requires-clause-few
 run_job-requires-clause-few g c =
-    (drives_fit c.args.drives.now.items (map string_bytes c.args.words.now.items) c.in-Ok.job c.requires.named c.in-Ok.ensures.job).1
-
-pub still-requires-clause-some : goal.still-requires-clause-some
-still-requires-clause-some g c =
-    (drives_fit c.args.drives.now.items (map string_bytes c.args.words.now.items) c.in-Ok.job c.requires.named c.in-Ok.ensures.job).0
-
-pub still-requires-clause-few : goal.still-requires-clause-few
-still-requires-clause-few g c =
-    (drives_fit c.args.drives.now.items (map string_bytes c.args.words.now.items) c.in-Ok.job c.requires.named c.in-Ok.ensures.job).1
+    let P : Job → Type 0 = λ job. HasDrives job (length c.args.drives.now.items) in
+    let has : AreDrives (length c.args.drives.now.items) =
+    subst P c.in-Run.is (drives_fit c.args.drives.now.items (map string_bytes c.args.words.now.items) c.in-Ok.job c.requires.named c.in-Ok.ensures.job) in
+    has.1
 
 pub returns-in-Run-clause-ends : goal.returns-in-Run-clause-ends
 returns-in-Run-clause-ends g c =
-    let told = all_told g.D.Drive.held c.args.drives.now.items in
-    ends_given g.D.Drive.faults (map string_bytes c.args.words.now.items) told c.in-Ok.job c.args.drives.now.items c.run_job.new.drives.items _ c.run_job.result
-    c.in-Ok.ensures.job (ends_wished g.D.Drive.faults told c.in-Ok.job c.wish.result c.args.drives.now.items c.run_job.new.drives.items _ c.run_job.result c.wish.ensures c.run_job.ensures.ends)
+    let olds = c.args.drives.now.items in
+    let news = c.run_job.new.drives.items in
+    let input = input_over (g.S.Source.left c.args.input.now) (g.S.Source.faults c.args.input.now) (g.S.Source.faults c.args.input.now) in
+    let output = output_between (g.K.Sink.faults c.args.out.now) (g.K.Sink.faults c.run_job.new.out) (g.K.Sink.written c.args.out.now) (g.K.Sink.written c.run_job.new.out) (g.K.Sink.keeps_back c.run_job.new.out) in
+    let told = all_told g.D.Drive.held olds in
+    let P : Job → Type 0 = λ job. Ends g.D.Drive.faults olds news (JobComesTo job (length olds) told input) (LeavesAt g.D.Drive.held g.D.Drive.faults (Ok job) input olds news) output c.run_job.result in
+    ends_given g.D.Drive.held g.D.Drive.faults (map string_bytes c.args.words.now.items) (length olds) told input c.in-Ok.job olds news output c.run_job.result c.in-Ok.ensures.job
+    (subst P (sym c.in-Run.is) c.run_job.ensures.ends)
 
-pub returns-in-Ref-clause-ends : goal.returns-in-Ref-clause-ends
-returns-in-Ref-clause-ends g c =
-    ends_given g.D.Drive.faults (map string_bytes c.args.words.now.items) (all_told g.D.Drive.held c.args.drives.now.items) c.in-Ok.job c.args.drives.now.items c.still.new.drives.items _ c.still.result
-    c.in-Ok.ensures.job c.still.ensures.ends
+pub returns-in-Large-clause-ends : goal.returns-in-Large-clause-ends
+returns-in-Large-clause-ends g c =
+    let olds = c.args.drives.now.items in
+    let input = input_over (g.S.Source.left c.args.input.now) (g.S.Source.faults c.args.input.now) (g.S.Source.faults c.args.input.now) in
+    let output = output_between (g.K.Sink.faults c.args.out.now) (g.K.Sink.faults c.large_job.new.out) (g.K.Sink.written c.args.out.now) (g.K.Sink.written c.large_job.new.out) (g.K.Sink.keeps_back c.large_job.new.out) in
+    let told = all_told g.D.Drive.held olds in
+    let large = c.in-Large in
+    let P : Job → Type 0 = λ job. Ends g.D.Drive.faults olds olds (JobComesTo job (length olds) told input) (LeavesAt g.D.Drive.held g.D.Drive.faults (Ok job) input olds olds) output c.large_job.result in
+    let comes = LargeComesTo (wish_for large.pick large.max false true) (recipe_for large.start large.nodes large.edges large.undirected) in
+    ends_given g.D.Drive.held g.D.Drive.faults (map string_bytes c.args.words.now.items) (length olds) told input c.in-Ok.job olds olds output c.large_job.result c.in-Ok.ensures.job
+    (subst P (sym large.is)
+    (ends_in_memory g.D.Drive.faults olds olds comes comes (LeavesHeld g.D.Drive.held olds olds) output c.large_job.result (λ outcome is. is) (held_same g.D.Drive.faults olds)
+    (λ end. held_same g.D.Drive.held olds) c.large_job.ensures.ends))
+
+pub returns-in-Large-clause-drives : goal.returns-in-Large-clause-drives
+returns-in-Large-clause-drives g c =
+    leaves_nothing g.D.Drive.held g.D.Drive.faults (job_of (map string_bytes c.args.words.now.items)) (input_over (g.S.Source.left c.args.input.now) (g.S.Source.faults c.args.input.now) (g.S.Source.faults c.args.input.now)) c.args.drives.now.items
+
+pub returns-in-Large-clause-done : goal.returns-in-Large-clause-done
+returns-in-Large-clause-done g c =
+    let olds = c.args.drives.now.items in
+    let P : Result Job WordFault → Type 0 = λ given. DoneBy g.D.Drive.held g.D.Drive.faults given (input_over (g.S.Source.left c.args.input.now) (g.S.Source.faults c.args.input.now) (g.S.Source.faults c.args.input.now)) olds olds in
+    let Q : Job → Type 0 = λ job. P (Ok job) in
+    λ zero. subst P (sym c.in-Ok.ensures.job) (subst Q (sym c.in-Large.is) (held_same g.D.Drive.held olds))
+
+pub returns-in-Large-clause-undone : goal.returns-in-Large-clause-undone
+returns-in-Large-clause-undone g c = λ not_zero not_four not_five. held_same g.D.Drive.held c.args.drives.now.items
+
+pub returns-in-Large-clause-sure : goal.returns-in-Large-clause-sure
+returns-in-Large-clause-sure g c =
+    keeps_nothing g.D.Drive.room g.D.Drive.faults (job_of (map string_bytes c.args.words.now.items)) (g.S.Source.left c.args.input.now) c.args.drives.now.items
+
+pub returns-in-Large-clause-reads : goal.returns-in-Large-clause-reads
+returns-in-Large-clause-reads g c =
+    reads_nothing g.D.Drive.log (job_of (map string_bytes c.args.words.now.items)) (all_told g.D.Drive.held c.args.drives.now.items) c.args.drives.now.items
+
+pub returns-in-Large-clause-all_read : goal.returns-in-Large-clause-all_read
+returns-in-Large-clause-all_read g c =
+    let olds = c.args.drives.now.items in
+    let told = all_told g.D.Drive.held olds in
+    let P : Result Job WordFault → Type 0 = λ given. IfSome told (λ helds. ReadsAllBy g.D.Drive.log given helds olds olds) in
+    let Q : Job → Type 0 = λ job. P (Ok job) in
+    λ zero. subst P (sym c.in-Ok.ensures.job) (subst Q (sym c.in-Large.is) (always told (LogsGrew g.D.Drive.log [] olds olds) (LogsGrew-none g.D.Drive.log olds)))
+
+pub large_job-requires-clause-some_nodes : goal.large_job-requires-clause-some_nodes
+large_job-requires-clause-some_nodes g c = (subst JobFits c.in-Large.is (accepted_fits (map string_bytes c.args.words.now.items) c.in-Ok.job c.in-Ok.ensures.job)).1.0
+
+pub large_job-requires-clause-few_nodes : goal.large_job-requires-clause-few_nodes
+large_job-requires-clause-few_nodes g c = (subst JobFits c.in-Large.is (accepted_fits (map string_bytes c.args.words.now.items) c.in-Ok.job c.in-Ok.ensures.job)).1.1
+
+pub large_job-requires-clause-few_edges : goal.large_job-requires-clause-few_edges
+large_job-requires-clause-few_edges g c = (subst JobFits c.in-Large.is (accepted_fits (map string_bytes c.args.words.now.items) c.in-Ok.job c.in-Ok.ensures.job)).1.2
+
+pub large_job-requires-clause-some : goal.large_job-requires-clause-some
+large_job-requires-clause-some g c = (subst JobFits c.in-Large.is (accepted_fits (map string_bytes c.args.words.now.items) c.in-Ok.job c.in-Ok.ensures.job)).2.0
+
+pub large_job-requires-clause-few : goal.large_job-requires-clause-few
+large_job-requires-clause-few g c = (subst JobFits c.in-Large.is (accepted_fits (map string_bytes c.args.words.now.items) c.in-Ok.job c.in-Ok.ensures.job)).2.1
+
+pub large_job-requires-clause-some_unit : goal.large_job-requires-clause-some_unit
+large_job-requires-clause-some_unit g c = (subst JobFits c.in-Large.is (accepted_fits (map string_bytes c.args.words.now.items) c.in-Ok.job c.in-Ok.ensures.job)).0.0
+
+pub large_job-requires-clause-small_unit : goal.large_job-requires-clause-small_unit
+large_job-requires-clause-small_unit g c = (subst JobFits c.in-Large.is (accepted_fits (map string_bytes c.args.words.now.items) c.in-Ok.job c.in-Ok.ensures.job)).0.1

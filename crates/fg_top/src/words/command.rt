@@ -8,8 +8,11 @@ use fg_base::Opt;
 /// A command that is built.
 #[derive(Clone, Copy, PartialEq, Eq, Debug)]
 pub(crate) enum Command {
+    Build,
     Run,
     Ref,
+    Gen,
+    Large,
 }
 
 impl Command {
@@ -18,8 +21,11 @@ impl Command {
         ensures { result ≡ command_of word.now }
     {
         match word {
+            "build" => Some(Command::Build),
             "run" => Some(Command::Run),
             "ref" => Some(Command::Ref),
+            "gen" => Some(Command::Gen),
+            "large" => Some(Command::Large),
             _ => None,
         }
     }
@@ -29,6 +35,10 @@ impl Command {
         ensures { result ≡ is_taken_by self option }
     {
         match self {
+            Command::Build => matches!(
+                option,
+                Opt::Unit | Opt::Number | Opt::Undirected | Opt::Input | Opt::Drive
+            ),
             Command::Run | Command::Ref => matches!(
                 option,
                 Opt::Program
@@ -39,6 +49,20 @@ impl Command {
                     | Opt::Quiet
                     | Opt::Drive
             ),
+            Command::Gen => matches!(option, Opt::Start | Opt::Nodes | Opt::Edges),
+            Command::Large => matches!(
+                option,
+                Opt::Program
+                    | Opt::Source
+                    | Opt::Max
+                    | Opt::Cut
+                    | Opt::Unit
+                    | Opt::Undirected
+                    | Opt::Start
+                    | Opt::Nodes
+                    | Opt::Edges
+                    | Opt::Drives
+            ),
         }
     }
 
@@ -47,7 +71,10 @@ impl Command {
         ensures { result ≡ is_needed_by self option }
     {
         match self {
+            Command::Build => option == Opt::Drive,
             Command::Run | Command::Ref => matches!(option, Opt::Program | Opt::Drive),
+            Command::Gen => matches!(option, Opt::Start | Opt::Nodes | Opt::Edges),
+            Command::Large => matches!(option, Opt::Program | Opt::Start | Opt::Nodes | Opt::Edges),
         }
     }
 }

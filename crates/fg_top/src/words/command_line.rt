@@ -1,19 +1,22 @@
 //! The words behind COMMAND: what they say of each option, and how many drives they name.
 
-ghost use Rattle.std.specs.Prelude.{◌≡◌, find, map, string_bytes, if◌then◌else◌};
+ghost use Rattle.std.specs.Prelude.{◌≡◌, None, true, false, find, is_some, map, option_map, string_bytes, if◌then◌else◌};
 ghost use Rattle.std.specs.List.{list_all};
-ghost use Rattle.fg_top.specs.CommandLine.{option_of, is_flag, is_given, is_beyond, is_extra, is_missing, is_useful, is_vital, fault_of, table, with_option};
-ghost use Rattle.fg_top.specs.Words.{is_drive, is_option_first, with_drives, line_read, pick_of, job_from};
+ghost use Rattle.fg_top.specs.CommandLine.{is_of_runs, is_same, option_of, is_flag, is_given, is_beyond, is_extra, is_missing, is_useful, is_vital, fault_of, table, with_option};
+ghost use Rattle.fg_top.specs.Words.{input_in, is_drive, is_option_first, parts_from, with_drives, line_read, pick_of, recipe_of, build_from, job_from};
 
-use crate::jobs::{Job, Pick};
+use crate::jobs::{Job, Pick, Recipe};
 use crate::words::command::{Command, ProgramName};
 use crate::words::number::{number_within, wide_number_within};
 use crate::words::said::Said;
-use fg_base::limits::MAX_DRIVES;
+use fg_base::limits::{MAX_DRIVES, MAX_ENTRIES, MAX_UNIT, MAX_VERTICES};
 use fg_base::{Opt, WordFault};
 
 /// The cut of `rank` where the words give none.
 const DEFAULT_CUT: u64 = 1048;
+
+/// The pages of a unit where the words give none.
+const DEFAULT_UNIT: u32 = 16;
 
 /// What the words behind COMMAND say.
 #[derive(Clone, Copy, PartialEq, Eq, Debug)]
@@ -24,18 +27,36 @@ pub(crate) struct CommandLine {
     pub(crate) cut: Said<u64>,
     pub(crate) each: bool,
     pub(crate) quiet: bool,
+    pub(crate) unit: Said<u32>,
+    pub(crate) number: Said<u64>,
+    pub(crate) undirected: bool,
+    /// Whether a file is named as the input.
+    pub(crate) input: bool,
+    pub(crate) start: Said<u64>,
+    pub(crate) nodes: Said<u32>,
+    pub(crate) edges: Said<u32>,
+    /// How many drives are made in memory.
+    pub(crate) made: Said<u32>,
     /// How many drives are named.
     pub(crate) drives: usize,
 }
 
 /// The options and the drives, in the order in which refusals look at them.
-const TABLE: [Opt; 7] = [
+const TABLE: [Opt; 15] = [
     Opt::Program,
     Opt::Source,
     Opt::Max,
     Opt::Cut,
     Opt::Each,
     Opt::Quiet,
+    Opt::Unit,
+    Opt::Number,
+    Opt::Undirected,
+    Opt::Input,
+    Opt::Start,
+    Opt::Nodes,
+    Opt::Edges,
+    Opt::Drives,
     Opt::Drive,
 ];
 
@@ -50,6 +71,14 @@ fn option_named(word: &str) -> Option<Opt>
         "--cut" => Some(Opt::Cut),
         "--each" => Some(Opt::Each),
         "--quiet" => Some(Opt::Quiet),
+        "--unit" => Some(Opt::Unit),
+        "--number" => Some(Opt::Number),
+        "--undirected" => Some(Opt::Undirected),
+        "--input" => Some(Opt::Input),
+        "--start" => Some(Opt::Start),
+        "--nodes" => Some(Opt::Nodes),
+        "--edges" => Some(Opt::Edges),
+        "--drives" => Some(Opt::Drives),
         _ => None,
     }
 }
@@ -102,6 +131,14 @@ impl CommandLine {
         cut: Said::Nothing,
         each: false,
         quiet: false,
+        unit: Said::Nothing,
+        number: Said::Nothing,
+        undirected: false,
+        input: false,
+        start: Said::Nothing,
+        nodes: Said::Nothing,
+        edges: Said::Nothing,
+        made: Said::Nothing,
         drives: 0,
     };
 
@@ -116,8 +153,15 @@ impl CommandLine {
             Opt::Cut => self.cut.is_there(),
             Opt::Each => self.each,
             Opt::Quiet => self.quiet,
+            Opt::Unit => self.unit.is_there(),
+            Opt::Number => self.number.is_there(),
+            Opt::Undirected => self.undirected,
+            Opt::Input => self.input,
+            Opt::Start => self.start.is_there(),
+            Opt::Nodes => self.nodes.is_there(),
+            Opt::Edges => self.edges.is_there(),
+            Opt::Drives => self.made.is_there(),
             Opt::Drive => self.drives > 0,
-            _ => false,
         }
     }
 
@@ -130,6 +174,12 @@ impl CommandLine {
             Opt::Source => self.source.is_out_of_range(),
             Opt::Max => self.max.is_out_of_range(),
             Opt::Cut => self.cut.is_out_of_range(),
+            Opt::Unit => self.unit.is_out_of_range(),
+            Opt::Number => self.number.is_out_of_range(),
+            Opt::Start => self.start.is_out_of_range(),
+            Opt::Nodes => self.nodes.is_out_of_range(),
+            Opt::Edges => self.edges.is_out_of_range(),
+            Opt::Drives => self.made.is_out_of_range(),
             Opt::Drive => self.drives > MAX_DRIVES as usize,
             _ => false,
         }
@@ -211,7 +261,7 @@ impl CommandLine {
     }
 
     /// The program that is named, with its source or its cut: there is one where nothing is wrong with the words.
-    pub(crate) fn pick(&self) -> Option<Pick>
+    fn pick(&self) -> Option<Pick>
         ensures { result ≡ pick_of self.now }
     {
         let Said::Value(program) = self.program else {
@@ -225,30 +275,120 @@ impl CommandLine {
         }
     }
 
-    /// The job of the command at this program.
-    pub(crate) fn job(&self, command: Command, pick: Pick) -> Job
-        ensures { result ≡ job_from command pick self.now }
+    /// How edges are generated, where the words say all of it: they do where nothing is wrong with them.
+    fn recipe(&self) -> Option<Recipe>
+        ensures { result ≡ recipe_of self.now }
     {
-        let max = self.max.value_or(u32::MAX);
-        let CommandLine { each, quiet, .. } = *self;
-        match command {
-            Command::Run => Job::Run {
-                pick,
-                max,
-                each,
-                quiet,
-            },
-            Command::Ref => Job::Ref {
-                pick,
-                max,
-                each,
-                quiet,
-            },
+        let Said::Value(start) = self.start else {
+            return None;
+        };
+        let Said::Value(nodes) = self.nodes else {
+            return None;
+        };
+        let Said::Value(edges) = self.edges else {
+            return None;
+        };
+        Some(Recipe {
+            start,
+            nodes,
+            edges,
+            undirected: self.undirected,
+        })
+    }
+
+    /// The job of a build.
+    fn build_job(&self) -> Job
+        ensures { result ≡ build_from self.now }
+    {
+        Job::Build {
+            unit: self.unit.value_or(DEFAULT_UNIT),
+            number: self.number.value_or(0),
+            undirected: self.undirected,
         }
     }
 
-    /// The line with one more option; a flag is on whatever the value.
-    fn with_option(self, option: Opt, value: &str) -> CommandLine
+    /// The job of a run on drives, where a program is picked.
+    fn run_job(&self) -> Option<Job>
+        ensures { result ≡ job_from Command.Run self.now }
+    {
+        match self.pick() {
+            Some(pick) => Some(Job::Run {
+                pick,
+                max: self.max.value_or(u32::MAX),
+                each: self.each,
+                quiet: self.quiet,
+            }),
+            None => None,
+        }
+    }
+
+    /// The job of a run in memory, where a program is picked.
+    fn ref_job(&self) -> Option<Job>
+        ensures { result ≡ job_from Command.Ref self.now }
+    {
+        match self.pick() {
+            Some(pick) => Some(Job::Ref {
+                pick,
+                max: self.max.value_or(u32::MAX),
+                each: self.each,
+                quiet: self.quiet,
+            }),
+            None => None,
+        }
+    }
+
+    /// The job of generating, where the words say how.
+    fn gen_job(&self) -> Option<Job>
+        ensures { result ≡ job_from Command.Gen self.now }
+    {
+        match self.recipe() {
+            Some(recipe) => Some(Job::Gen {
+                start: recipe.start,
+                nodes: recipe.nodes,
+                edges: recipe.edges,
+            }),
+            None => None,
+        }
+    }
+
+    /// The job of a run on generated edges, where a program is picked and the words say how.
+    fn large_job(&self) -> Option<Job>
+        ensures { result ≡ job_from Command.Large self.now }
+    {
+        let Some(pick) = self.pick() else {
+            return None;
+        };
+        let Some(recipe) = self.recipe() else {
+            return None;
+        };
+        Some(Job::Large {
+            pick,
+            max: self.max.value_or(u32::MAX),
+            unit: self.unit.value_or(DEFAULT_UNIT),
+            undirected: recipe.undirected,
+            start: recipe.start,
+            nodes: recipe.nodes,
+            edges: recipe.edges,
+            drives: self.made.value_or(1),
+        })
+    }
+
+    /// The job of the command: there is one where nothing is wrong with the words.
+    pub(crate) fn job(&self, command: Command) -> Option<Job>
+        ensures { result ≡ job_from command self.now }
+    {
+        match command {
+            Command::Build => Some(self.build_job()),
+            Command::Run => self.run_job(),
+            Command::Ref => self.ref_job(),
+            Command::Gen => self.gen_job(),
+            Command::Large => self.large_job(),
+        }
+    }
+
+    /// The line with one more option of those of a run; a flag is on whatever the value.
+    fn with_run_option(self, option: Opt, value: &str) -> CommandLine
+        requires { is_of_runs option ≡ true }
         ensures { result ≡ with_option self option value.now }
     {
         match option {
@@ -274,6 +414,64 @@ impl CommandLine {
                 ..self
             },
             _ => self,
+        }
+    }
+
+    /// The same of the other options.
+    fn with_other_option(self, option: Opt, value: &str) -> CommandLine
+        requires { is_of_runs option ≡ false }
+        ensures { result ≡ with_option self option value.now }
+    {
+        match option {
+            Opt::Unit => CommandLine {
+                unit: Said::found(number_within(value, 1, MAX_UNIT)),
+                ..self
+            },
+            Opt::Number => CommandLine {
+                number: Said::found(wide_number_within(value, 0, u64::MAX)),
+                ..self
+            },
+            Opt::Undirected => CommandLine {
+                undirected: true,
+                ..self
+            },
+            Opt::Input => CommandLine {
+                input: true,
+                ..self
+            },
+            Opt::Start => CommandLine {
+                start: Said::found(wide_number_within(value, 0, u64::MAX)),
+                ..self
+            },
+            Opt::Nodes => CommandLine {
+                nodes: Said::found(number_within(value, 1, MAX_VERTICES)),
+                ..self
+            },
+            Opt::Edges => CommandLine {
+                edges: Said::found(number_within(value, 0, MAX_ENTRIES)),
+                ..self
+            },
+            Opt::Drives => CommandLine {
+                made: Said::found(number_within(value, 1, MAX_DRIVES)),
+                ..self
+            },
+            _ => self,
+        }
+    }
+
+    /// The line with one more option.
+    fn with_option(self, option: Opt, value: &str) -> CommandLine
+        ensures { result ≡ with_option self option value.now }
+    {
+        match option {
+            Opt::Program
+            | Opt::Source
+            | Opt::Max
+            | Opt::Cut
+            | Opt::Each
+            | Opt::Quiet
+            | Opt::Drive => self.with_run_option(option, value),
+            _ => self.with_other_option(option, value),
         }
     }
 
@@ -308,4 +506,29 @@ impl CommandLine {
         }
         line.with_drives(&words[place..])
     }
+}
+
+/// Whether the option is `--input`.
+fn is_input(option: Opt) -> bool
+    ensures { result ≡ is_same option Opt.Input }
+{
+    matches!(option, Opt::Input)
+}
+
+/// The value of `--input` among words that have a reading.
+pub(crate) fn input_among(words: &[String]) -> Option<&String>
+    requires { is_some (parts_from None (map string_bytes words.now)) ≡ true }
+    ensures { option_map (λ name. string_bytes name.now) result ≡ input_in (parts_from None (map string_bytes words.now)) }
+{
+    let mut place = 0;
+    while is_option_first(&words[place..]) {
+        let option = option_named(words[place].as_str())?;
+        let last = place + values_of(option);
+        let value = words.get(last)?;
+        if is_input(option) {
+            return Some(value);
+        }
+        place = last + 1;
+    }
+    None
 }

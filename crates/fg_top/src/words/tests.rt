@@ -53,6 +53,56 @@ fn takes_each_command_and_program(rt: HostRuntime) -> Result<(), Fail> {
                 quiet: false,
             },
         ),
+        (
+            "build D",
+            Job::Build {
+                unit: 16,
+                number: 0,
+                undirected: false,
+            },
+        ),
+        (
+            "build --unit 256 --input --unit --undirected --number 18446744073709551615 D0 D1",
+            Job::Build {
+                unit: 256,
+                number: u64::MAX,
+                undirected: true,
+            },
+        ),
+        (
+            "gen --edges 67108864 --nodes 16777216 --start 18446744073709551615",
+            Job::Gen {
+                start: u64::MAX,
+                nodes: 16_777_216,
+                edges: 67_108_864,
+            },
+        ),
+        (
+            "large --program bfs --source 1 --start 0 --nodes 1 --edges 0",
+            Job::Large {
+                pick: Pick::Bfs(1),
+                max: u32::MAX,
+                unit: 16,
+                undirected: false,
+                start: 0,
+                nodes: 1,
+                edges: 0,
+                drives: 1,
+            },
+        ),
+        (
+            "large --drives 16 --unit 1 --undirected --max 3 --cut 2 --program rank --start 5 --nodes 6 --edges 7",
+            Job::Large {
+                pick: Pick::Rank(2),
+                max: 3,
+                unit: 1,
+                undirected: true,
+                start: 5,
+                nodes: 6,
+                edges: 7,
+                drives: 16,
+            },
+        ),
     ];
     for (line, asked) in rows {
         assert_eq!(rt;
@@ -93,7 +143,8 @@ fn reads_words_by_their_places(rt: HostRuntime) -> Result<(), Fail> {
         ("run D --program bfs --source 0", parse),
         // Names of options that are built, and nothing else.
         ("run --program bfs --source 0 --drive D", parse),
-        ("run --program bfs --source 0 --unit 1 D", parse),
+        ("run --program bfs --source 0 --workers 1 D", parse),
+        ("gen --start 1 --nodes 2 --edges", parse),
         ("run --program=bfs --source 0 D", parse),
         ("run -- D", parse),
         ("walk --steps 3 D", parse),
@@ -159,6 +210,52 @@ fn refuses_by_the_first_fault(rt: HostRuntime) -> Result<(), Fail> {
             WordFault::Range(Opt::Source),
         ),
         ("run --program rank --cut 0 D", WordFault::Range(Opt::Cut)),
+        (
+            "run --program bfs --source 0 --unit 1 D",
+            WordFault::Extra(Opt::Unit),
+        ),
+        ("build --program bfs D", WordFault::Extra(Opt::Program)),
+        ("build --unit 0", WordFault::Missing(Opt::Drive)),
+        ("build --unit 0 --number x D", WordFault::Range(Opt::Unit)),
+        ("build --unit 257 D", WordFault::Range(Opt::Unit)),
+        ("build --number x D", WordFault::Range(Opt::Number)),
+        ("gen --nodes 1", WordFault::Missing(Opt::Start)),
+        (
+            "gen --start 1 --nodes 1 --edges 1 D",
+            WordFault::Extra(Opt::Drive),
+        ),
+        (
+            "gen --start 1 --nodes 0 --edges 1",
+            WordFault::Range(Opt::Nodes),
+        ),
+        (
+            "gen --start 1 --nodes 16777217 --edges 1",
+            WordFault::Range(Opt::Nodes),
+        ),
+        (
+            "gen --start 1 --nodes 1 --edges 67108865",
+            WordFault::Range(Opt::Edges),
+        ),
+        (
+            "large --quiet --start 1 --nodes 1 --edges 1",
+            WordFault::Extra(Opt::Quiet),
+        ),
+        (
+            "large --start 1 --nodes 1 --edges 1",
+            WordFault::Missing(Opt::Program),
+        ),
+        (
+            "large --program bfs --start 1 --nodes 1 --edges 1",
+            WordFault::Missing(Opt::Source),
+        ),
+        (
+            "large --program rank --drives 17 --start 1 --nodes 1 --edges 1",
+            WordFault::Range(Opt::Drives),
+        ),
+        (
+            "large --program fast --start 1 --nodes 1 --edges 1",
+            WordFault::Range(Opt::Program),
+        ),
         (
             "run --program rank --cut 18446744073709551616 D",
             WordFault::Range(Opt::Cut),
@@ -230,12 +327,38 @@ fn takes_up_to_16_drives(rt: HostRuntime) -> Result<(), Fail> {
 }
 
 #[test]
-fn a_run_alone_may_wait_and_no_job_reads_a_file(rt: HostRuntime) -> Result<(), Fail> {
-    assert!(rt; !RUN.is_still());
-    let line = words(rt.alloc(), "ref --program rank D")?;
-    let slow = job(rt.alloc(), &line).map(|job| job.is_still());
-    assert_eq!(rt; slow, Ok(true));
-    let input = input_name(rt.alloc(), &line)?;
-    assert!(rt; input.is_none());
+fn jobs_over_pages_alone_may_wait(rt: HostRuntime) -> Result<(), Fail> {
+    let rows = [
+        ("run --program bfs --source 0 D", false),
+        ("large --program rank --start 1 --nodes 1 --edges 1", false),
+        ("ref --program rank D", true),
+        ("build D", true),
+        ("gen --start 1 --nodes 1 --edges 1", true),
+    ];
+    for (line, is_still) in rows {
+        let asked = job(rt.alloc(), &words(rt.alloc(), line)?).map(|job| job.is_still());
+        assert_eq!(rt; asked, Ok(is_still), "{line}");
+    }
+    Ok(())
+}
+
+#[test]
+fn names_the_input_of_an_accepted_build(rt: HostRuntime) -> Result<(), Fail> {
+    let rows = [
+        ("build D", None),
+        ("build --input a.txt D", Some("a.txt")),
+        (
+            "build --unit 2 --undirected --input --number --number 3 D",
+            Some("--number"),
+        ),
+        ("build --input  D", Some("")),
+        ("build --number --input D", None),
+        ("build --input a.txt", None),
+        ("run --input a.txt --program bfs --source 0 D", None),
+    ];
+    for (line, want) in rows {
+        let name = input_name(rt.alloc(), &words(rt.alloc(), line)?)?;
+        assert_eq!(rt; name.as_deref(), want, "{line}");
+    }
     Ok(())
 }

@@ -28,5 +28,5 @@ returns-clause-refused g c =
     IfErr-weaker c.expect_end.result _ _
     (λ refusal refused.
     end_refused c.args.reader.now c.loop-room.reader (g.S.Source.left c.args.input.now) (g.S.Source.left c.loop-room.input) (g.S.Source.left c.expect_end.new.input)
-    (g.S.Source.faults c.args.input.now) (g.S.Source.faults c.loop-room.input) (g.S.Source.faults c.expect_end.new.input) before.0 refusal before.1 before.3 (omega (arith, before.2)) refused)
+    (g.S.Source.faults c.args.input.now) (g.S.Source.faults c.loop-room.input) (g.S.Source.faults c.expect_end.new.input) _ before.0 refusal before.1 before.3 (omega (arith, before.2)) (omega arith) refused)
     c.expect_end.ensures.refused

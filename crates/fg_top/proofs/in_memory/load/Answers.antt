@@ -6,7 +6,7 @@ use Rattle.fg_top.proofs.in_memory.load.Goals as goal
 
 pub returns-in-Err-clause-reads : goal.returns-in-Err-clause-reads
 returns-in-Err-clause-reads g c =
-    ref_reads_first g.D.Drive.log (all_told g.D.Drive.held c.args.drives.now.items) c.args.drives.now.items c.open_sourced.new.drives.items c.in-Err.ensures.reads
+    ref_reads_first g.D.Drive.log c.args.wish (all_told g.D.Drive.held c.args.drives.now.items) c.args.drives.now.items c.open_sourced.new.drives.items c.in-Err.ensures.reads
 
 pub returns-in-Ok-read_graph-clause-outcome : goal.returns-in-Ok-read_graph-clause-outcome
 returns-in-Ok-read_graph-clause-outcome g c =
@@ -21,13 +21,13 @@ returns-in-Ok-read_graph-clause-kept g c =
 
 pub returns-in-Ok-read_graph-clause-reads : goal.returns-in-Ok-read_graph-clause-reads
 returns-in-Ok-read_graph-clause-reads g c =
-    ref_reads_some g.D.Drive.log (all_told g.D.Drive.held c.args.drives.now.items) c.in-Ok.opened c.args.drives.now.items c.open_sourced.new.drives.items c.read_graph.new.drives.items
-    c.in-Ok.ensures.opening c.in-Ok.ensures.all_read c.read_graph.ensures.reads
+    ref_reads_some g.D.Drive.log c.args.wish (all_told g.D.Drive.held c.args.drives.now.items) c.in-Ok.opened c.args.drives.now.items c.open_sourced.new.drives.items c.read_graph.new.drives.items
+    c.in-Ok.ensures.opening c.in-Ok.ensures.sourced c.in-Ok.ensures.all_read c.read_graph.ensures.reads
 
 pub returns-in-Ok-read_graph-clause-all_read : goal.returns-in-Ok-read_graph-clause-all_read
 returns-in-Ok-read_graph-clause-all_read g c =
-    ref_reads_all g.D.Drive.log (all_told g.D.Drive.held c.args.drives.now.items) c.in-Ok.opened c.args.drives.now.items c.open_sourced.new.drives.items c.read_graph.new.drives.items
-    c.in-Ok.ensures.opening c.in-Ok.ensures.all_read c.in-Ok-read_graph.ensures.all_read
+    ref_reads_all g.D.Drive.log c.args.wish (all_told g.D.Drive.held c.args.drives.now.items) c.in-Ok.opened c.args.drives.now.items c.open_sourced.new.drives.items c.read_graph.new.drives.items
+    c.in-Ok.ensures.opening c.in-Ok.ensures.sourced c.in-Ok.ensures.all_read c.in-Ok-read_graph.ensures.all_read
 
 pub returns-in-Ok-read_graph-clause-held : goal.returns-in-Ok-read_graph-clause-held
 returns-in-Ok-read_graph-clause-held g c =
@@ -48,8 +48,8 @@ returns-clause-not_output g c =
 
 pub returns-clause-reads : goal.returns-clause-reads
 returns-clause-reads g c =
-    ref_reads_some g.D.Drive.log (all_told g.D.Drive.held c.args.drives.now.items) c.in-Ok.opened c.args.drives.now.items c.open_sourced.new.drives.items c.read_graph.new.drives.items
-    c.in-Ok.ensures.opening c.in-Ok.ensures.all_read c.read_graph.ensures.reads
+    ref_reads_some g.D.Drive.log c.args.wish (all_told g.D.Drive.held c.args.drives.now.items) c.in-Ok.opened c.args.drives.now.items c.open_sourced.new.drives.items c.read_graph.new.drives.items
+    c.in-Ok.ensures.opening c.in-Ok.ensures.sourced c.in-Ok.ensures.all_read c.read_graph.ensures.reads
 
 pub returns-clause-held : goal.returns-clause-held
 returns-clause-held g c =

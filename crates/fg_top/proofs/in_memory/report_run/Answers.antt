@@ -1,7 +1,7 @@
 use Rattle.std.proofs.Common.{ℕ, Some, [], Result, Ok, Err, OnOk, subst, rules}
 use Rattle.fg_model.specs.Program.{Rules}
 use Rattle.fg_model.specs.Run.{run}
-use Rattle.fg_top.specs.Ends.{Ends, output_between}
+use Rattle.fg_top.specs.Ends.{EndsAlone, output_between}
 use Rattle.fg_top.specs.Outcome.{rules_of}
 use Rattle.fg_top.specs.Running.{RunComesTo}
 use Rattle.fg_top.proofs.RunEnds.{ends_of_run, plain_bad, plain_cause, plain_shown}
@@ -18,12 +18,12 @@ returns g c =
     let f1 = g.K.Sink.faults ran.new.watch.out.now in
     let t1 = g.K.Sink.written ran.new.watch.out.now in
     let last = c.close_run.new.out in
-    let At : g.row.K.Denot → Rules → Type 0 = λ sink rules. Ends {D = ℕ} (λ drive. drive) [] []
+    let At : g.row.K.Denot → Rules → Type 0 = λ sink rules. EndsAlone
     (RunComesTo rules wish (Some graph) (λ graph. run rules graph wish.max))
-    (output_between f0 (g.K.Sink.faults sink) t0 (g.K.Sink.written sink)) c.close_run.result in
+    (output_between f0 (g.K.Sink.faults sink) t0 (g.K.Sink.written sink) (g.K.Sink.keeps_back sink)) c.close_run.result in
     let ends : At last P = ends_of_run {D = ℕ} (λ drive. drive) [] [] P wish (Some graph) (λ graph. run P graph wish.max)
-    ran.result f0 f1 (g.K.Sink.faults last) t0 t1 (g.K.Sink.written last) c.close_run.result
-    ran.ensures.grew ran.ensures.ok (kept ran.result) ran.ensures.ok_watch ran.ensures.ok_shown (plain_cause ran.result f0 f1 ran.ensures.faults) (plain_bad ran.result (run P graph wish.max) ran.ensures.bad_edge)
+    (λ end. Unit {0}) ran.result f0 f1 (g.K.Sink.faults last) t0 t1 (g.K.Sink.written last) (g.K.Sink.keeps_back last) c.close_run.result
+    (λ end. tt) ran.ensures.grew ran.ensures.ok (kept ran.result) ran.ensures.ok_watch ran.ensures.ok_shown (plain_cause ran.result f0 f1 ran.ensures.faults) (plain_bad ran.result (run P graph wish.max) ran.ensures.bad_edge)
     (plain_shown ran.result P wish t0 t1 (run P graph wish.max) ran.ensures.shown) c.close_run.ensures in
     subst (λ (sink : g.row.K.Denot). At sink (rules_of wish.pick)) (search rules) (subst (At last) c.requires.picked ends)
   where

@@ -4,7 +4,7 @@ use Rattle.fg_model.specs.Run.{begun_of, run}
 use Rattle.fg_build.specs.Opening.{graph_on}
 use Rattle.fg_outside.specs.Drives.{LogsGrewBy, all_told}
 use Rattle.fg_top.specs.Asked.{IsAsked}
-use Rattle.fg_top.specs.Ends.{Ends, output_between}
+use Rattle.fg_top.specs.Ends.{Ends, LeavesHeld, output_between}
 use Rattle.fg_top.specs.Outcome.{rules_of}
 use Rattle.fg_top.specs.Running.{RunComesTo}
 use Rattle.fg_top.proofs.RunEnds.{ends_of_run}
@@ -27,9 +27,9 @@ returns-clause-ends g c =
     let t1 = g.K.Sink.written paged.new.watch.out.now in
     let last = c.close_run-status.new.out in
     let At : g.row.K.Denot → Rules → Type 0 = λ sink rules. Ends g.D.Drive.faults c.args.drives.items paged.result.drives.items
-    (RunComesTo rules wish told (λ helds. run rules (graph_on c.args.opened helds) wish.max))
-    (output_between f0 (g.K.Sink.faults sink) t0 (g.K.Sink.written sink)) c.close_run-status.result in
+    (RunComesTo rules wish told (λ helds. run rules (graph_on c.args.opened helds) wish.max)) (LeavesHeld g.D.Drive.held c.args.drives.items paged.result.drives.items)
+    (output_between f0 (g.K.Sink.faults sink) t0 (g.K.Sink.written sink) (g.K.Sink.keeps_back sink)) c.close_run-status.result in
     let ends : At last P = ends_of_run g.D.Drive.faults c.args.drives.items paged.result.drives.items P wish told (λ helds. run P (graph_on c.args.opened helds) wish.max)
-    paged.result.answer f0 f1 (g.K.Sink.faults last) t0 t1 (g.K.Sink.written last) c.close_run-status.result
-    paged.ensures.grew paged.ensures.ok paged.ensures.ok_kept paged.ensures.ok_watch paged.ensures.ok_shown paged.ensures.faults paged.ensures.bad_edge paged.ensures.shown c.close_run-status.ensures in
+    (LeavesHeld g.D.Drive.held c.args.drives.items paged.result.drives.items) paged.result.answer f0 f1 (g.K.Sink.faults last) t0 t1 (g.K.Sink.written last) (g.K.Sink.keeps_back last) c.close_run-status.result
+    (λ end. paged.ensures.held) paged.ensures.grew paged.ensures.ok paged.ensures.ok_kept paged.ensures.ok_watch paged.ensures.ok_shown paged.ensures.faults paged.ensures.bad_edge paged.ensures.shown c.close_run-status.ensures in
     subst (λ (sink : g.row.K.Denot). At sink (rules_of wish.pick)) (search rules) (subst (At last) c.requires.picked ends)

@@ -2,6 +2,7 @@ use Rattle.std.proofs.Common.{◌≡◌, IfSome, List, subst, rules}
 use Rattle.fg_build.specs.OpeningReads.{opening_reads}
 use Rattle.fg_outside.specs.Drives.{EachSame, LogsGrew, NoneRose, RoomyKept, all_told}
 use Rattle.fg_outside.proofs.DriveLemmas.{EachSame-more, RoomyKept-more, all_told-same}
+use Rattle.fg_top.specs.Ends.{LeavesHeld}
 use Rattle.fg_top.specs.Outcome.{run_on}
 use Rattle.fg_top.specs.Tallies.{tallied}
 use Rattle.fg_top.proofs.JobLemmas.{ends_after_head, ends_at_head, reads_all, reads_none, reads_of_all, tally_of}
@@ -11,8 +12,9 @@ use Rattle.fg_top.proofs.run.run_job.Goals as goal
 pub returns-in-Err-write_head_of-clause-ends : goal.returns-in-Err-write_head_of-clause-ends
 returns-in-Err-write_head_of-clause-ends g c =
     ends_at_head g.D.Drive.faults c.args.drives.now.items c.open_sourced.new.drives.items c.args.wish (all_told g.D.Drive.held c.args.drives.now.items) c.in-Ok.opened.header
-    (run_on c.args.wish c.in-Ok.opened) (g.K.Sink.faults c.args.out.now) (g.K.Sink.faults c.write_head_of.new.out) (g.K.Sink.written c.args.out.now) (g.K.Sink.written c.write_head_of.new.out)
-    c.status.result (runs_so c.args.wish (all_told g.D.Drive.held c.args.drives.now.items) c.in-Ok.opened c.in-Ok.ensures.opening c.in-Ok.ensures.sourced) c.in-Err-write_head_of.ensures.counted.failed c.in-Err-write_head_of.ensures.part c.status.ensures
+    (run_on c.args.wish c.in-Ok.opened) (LeavesHeld g.D.Drive.held c.args.drives.now.items c.open_sourced.new.drives.items)
+    (g.K.Sink.faults c.args.out.now) (g.K.Sink.faults c.write_head_of.new.out) (g.K.Sink.written c.args.out.now) (g.K.Sink.written c.write_head_of.new.out)
+    (g.K.Sink.keeps_back c.write_head_of.new.out) c.status.result (runs_so c.args.wish (all_told g.D.Drive.held c.args.drives.now.items) c.in-Ok.opened c.in-Ok.ensures.opening c.in-Ok.ensures.sourced) c.in-Ok.ensures.held c.in-Err-write_head_of.ensures.counted.failed c.in-Err-write_head_of.ensures.part c.status.ensures
 
 pub returns-clause-ends : goal.returns-clause-ends
 returns-clause-ends g c =
@@ -22,10 +24,12 @@ returns-clause-ends g c =
     let Kept : List g.row.D.Denot → Type 0 = λ list. NoneRose g.D.Drive.faults olds list in
     let Held : List g.row.D.Denot → Type 0 = λ list. EachSame g.D.Drive.held olds list in
     ends_after_head g.D.Drive.faults olds taken c.run_picked-back.result.drives.items c.args.wish (all_told g.D.Drive.held olds) (all_told g.D.Drive.held taken) c.in-Ok.opened.header
-    (run_on c.args.wish c.in-Ok.opened) (g.K.Sink.faults c.args.out.now) (g.K.Sink.faults c.write_head_of.new.out) (g.K.Sink.faults c.run_picked-back.new.out)
-    (g.K.Sink.written c.args.out.now) (g.K.Sink.written c.write_head_of.new.out) (g.K.Sink.written c.run_picked-back.new.out) c.run_picked-back.result.status
+    (run_on c.args.wish c.in-Ok.opened) (LeavesHeld g.D.Drive.held taken c.run_picked-back.result.drives.items) (LeavesHeld g.D.Drive.held olds c.run_picked-back.result.drives.items)
+    (g.K.Sink.faults c.args.out.now) (g.K.Sink.faults c.write_head_of.new.out) (g.K.Sink.faults c.run_picked-back.new.out)
+    (g.K.Sink.written c.args.out.now) (g.K.Sink.written c.write_head_of.new.out) (g.K.Sink.written c.run_picked-back.new.out) (g.K.Sink.keeps_back c.run_picked-back.new.out) c.run_picked-back.result.status
     (all_told-same g.D.Drive.held olds taken (subst Held moved c.in-Ok.ensures.held))
     (runs_so c.args.wish (all_told g.D.Drive.held olds) c.in-Ok.opened c.in-Ok.ensures.opening c.in-Ok.ensures.sourced) (subst Kept moved c.in-Ok.ensures.kept)
+    (λ end. EachSame-more g.D.Drive.held olds taken c.run_picked-back.result.drives.items (subst Held moved c.in-Ok.ensures.held) c.run_picked-back.ensures.held)
     c.in_default.ensures.counted.kept c.in_default.ensures.whole c.run_picked-back.ensures.ends
 
 pub returns-clause-drives : goal.returns-clause-drives

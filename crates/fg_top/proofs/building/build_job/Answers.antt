@@ -1,0 +1,171 @@
+use Rattle.std.proofs.Common.{◌≡◌, ℕ, length, arith, refl, rules, subst, inl, inr}
+use Rattle.fg_outside.specs.Drives.{all_told}
+use Rattle.fg_outside.proofs.DriveLemmas.{EachDrive-length, EachSame-more}
+use Rattle.fg_report.specs.Refusals.{refusal_line}
+use Rattle.fg_top.specs.BuildOutcome.{BuildComesTo, built_line, input_over}
+use Rattle.fg_top.specs.Built.{BuildLeaves, MayBuild}
+use Rattle.fg_top.specs.Ends.{Ends, output_between}
+use Rattle.fg_top.specs.Outcome.{Outcome}
+use Rattle.fg_top.proofs.BuildDrives.{built_whole, cause_of_building, kept_built, kept_unbuilt, leaves_held, leaves_refused, left_by, over, unbuilt_refused}
+use Rattle.fg_top.proofs.BuildEnds.{comes_built}
+use Rattle.fg_top.proofs.EndLemmas.{ends_done}
+use Rattle.fg_top.proofs.JobLemmas.{ends_refused}
+use Rattle.fg_top.proofs.building.build_job.Goals as goal
+
+pub returns-in-Err-clause-ends : goal.returns-in-Err-clause-ends
+returns-in-Err-clause-ends g c =
+    let olds = c.args.drives.now.items in
+    let news = c.gather.new.drives.items in
+    let input = input_over (g.S.Source.left c.args.input.now) (g.S.Source.faults c.args.input.now) (g.S.Source.faults c.gather.new.input) in
+    let plan = over c.args.unit c.args.number olds in
+    ends_refused g.D.Drive.faults olds news (BuildComesTo (length olds) c.args.undirected (all_told g.D.Drive.held olds) input)
+    (BuildLeaves g.D.Drive.held g.D.Drive.faults plan c.args.undirected input olds news) c.in-Err.refusal
+    (g.K.Sink.faults c.args.out.now) (g.K.Sink.faults c.refuse.new.out) (g.K.Sink.written c.args.out.now) (g.K.Sink.written c.refuse.new.out)
+    (g.K.Sink.keeps_back c.refuse.new.out) c.refuse.result c.in-Err.ensures.cause
+    (leaves_held g.D.Drive.held g.D.Drive.faults plan c.args.undirected input olds news c.in-Err.refusal c.gather.ensures.held)
+    c.refuse.ensures
+
+pub returns-in-Err-clause-sure : goal.returns-in-Err-clause-sure
+returns-in-Err-clause-sure g c =
+    kept_unbuilt g.D.Drive.room g.D.Drive.faults (over c.args.unit c.args.number c.args.drives.now.items) c.args.undirected (g.S.Source.left c.args.input.now)
+    c.args.drives.now.items c.gather.new.drives.items c.gather.ensures.sure
+
+pub build-requires-clause-some : goal.build-requires-clause-some
+build-requires-clause-some g c =
+    let same = EachDrive-length (λ old new. g.D.Drive.held new ≡ g.D.Drive.held old) c.args.drives.now.items c.gather.new.drives.items c.gather.ensures.held in
+    omega (arith, same, c.requires.some)
+
+pub build-requires-clause-few : goal.build-requires-clause-few
+build-requires-clause-few g c =
+    let same = EachDrive-length (λ old new. g.D.Drive.held new ≡ g.D.Drive.held old) c.args.drives.now.items c.gather.new.drives.items c.gather.ensures.held in
+    omega (arith, same, c.requires.few)
+
+pub returns-in-Err-build-clause-ends : goal.returns-in-Err-build-clause-ends
+returns-in-Err-build-clause-ends g c =
+    let olds = c.args.drives.now.items in
+    let between = c.gather.new.drives.items in
+    let news = c.build.new.drives.items in
+    let told = all_told g.D.Drive.held olds in
+    let input = input_over (g.S.Source.left c.args.input.now) (g.S.Source.faults c.args.input.now) (g.S.Source.faults c.gather.new.input) in
+    let refusal = c.in-Err-build.refusal in
+    let may : MayBuild g.D.Drive.held c.args.undirected input olds c.in-Ok.edges =
+    record { empty = c.in-Ok.ensures.empty; stood = c.in-Ok.ensures.input_kept; of_text = c.in-Ok.ensures.edges } in
+    ends_refused g.D.Drive.faults olds news (BuildComesTo (length olds) c.args.undirected told input)
+    (BuildLeaves g.D.Drive.held g.D.Drive.faults (over c.args.unit c.args.number olds) c.args.undirected input olds news) refusal
+    (g.K.Sink.faults c.args.out.now) (g.K.Sink.faults c.refuse-in-Err-build.new.out) (g.K.Sink.written c.args.out.now) (g.K.Sink.written c.refuse-in-Err-build.new.out)
+    (g.K.Sink.keeps_back c.refuse-in-Err-build.new.out) c.refuse-in-Err-build.result
+    (cause_of_building g.D.Drive.faults (length olds) c.args.undirected told input refusal olds between news c.in-Ok.ensures.input_kept c.in-Ok.ensures.kept c.in-Err-build.ensures.counts)
+    (leaves_refused g.D.Drive.held g.D.Drive.faults c.args.unit c.args.number c.args.undirected input c.in-Ok.edges refusal olds between news may
+    c.gather.ensures.held c.in-Ok.ensures.kept c.in-Err-build.ensures.holds c.in-Err-build.ensures.counts)
+    c.refuse-in-Err-build.ensures
+
+pub returns-in-Err-build-clause-drives : goal.returns-in-Err-build-clause-drives
+returns-in-Err-build-clause-drives g c =
+    let olds = c.args.drives.now.items in
+    let news = c.build.new.drives.items in
+    let input = input_over (g.S.Source.left c.args.input.now) (g.S.Source.faults c.args.input.now) (g.S.Source.faults c.gather.new.input) in
+    let may : MayBuild g.D.Drive.held c.args.undirected input olds c.in-Ok.edges =
+    record { empty = c.in-Ok.ensures.empty; stood = c.in-Ok.ensures.input_kept; of_text = c.in-Ok.ensures.edges } in
+    left_by g.D.Drive.held g.D.Drive.faults (over c.args.unit c.args.number olds) c.args.undirected input olds news c.in-Err-build.refusal
+    (leaves_refused g.D.Drive.held g.D.Drive.faults c.args.unit c.args.number c.args.undirected input c.in-Ok.edges c.in-Err-build.refusal olds c.gather.new.drives.items news may
+    c.gather.ensures.held c.in-Ok.ensures.kept c.in-Err-build.ensures.holds c.in-Err-build.ensures.counts)
+
+pub returns-in-Err-build-clause-unbuilt : goal.returns-in-Err-build-clause-unbuilt
+returns-in-Err-build-clause-unbuilt g c =
+    let between = c.gather.new.drives.items in
+    λ not_zero not_four not_five.
+    unbuilt_refused g.D.Drive.held g.D.Drive.faults (over c.args.unit c.args.number between) c.in-Ok.edges c.in-Err-build.refusal
+    c.args.drives.now.items between c.build.new.drives.items
+    (output_between (g.K.Sink.faults c.args.out.now) (g.K.Sink.faults c.refuse-in-Err-build.new.out) (g.K.Sink.written c.args.out.now) (g.K.Sink.written c.refuse-in-Err-build.new.out) (g.K.Sink.keeps_back c.refuse-in-Err-build.new.out))
+    (refusal_line c.in-Err-build.refusal) c.refuse-in-Err-build.result c.gather.ensures.held c.in-Err-build.ensures.holds
+    c.refuse-in-Err-build.ensures not_four not_five
+
+pub returns-in-Err-build-clause-sure : goal.returns-in-Err-build-clause-sure
+returns-in-Err-build-clause-sure g c =
+    kept_built g.D.Drive.room g.D.Drive.faults c.args.unit c.args.number c.args.undirected (g.S.Source.left c.args.input.now) c.in-Ok.edges
+    c.args.drives.now.items c.gather.new.drives.items c.build.new.drives.items c.in-Ok.ensures.edges c.gather.ensures.room c.in-Ok.ensures.kept c.build.ensures.sure
+
+pub returns-in-Err-build-clause-reads : goal.returns-in-Err-build-clause-reads
+returns-in-Err-build-clause-reads g c =
+    EachSame-more g.D.Drive.log c.args.drives.now.items c.gather.new.drives.items c.build.new.drives.items c.gather.ensures.log c.build.ensures.log
+
+pub returns-in-Err-write_built-clause-ends : goal.returns-in-Err-write_built-clause-ends
+returns-in-Err-write_built-clause-ends g c =
+    let olds = c.args.drives.now.items in
+    let news = c.build.new.drives.items in
+    let input = input_over (g.S.Source.left c.args.input.now) (g.S.Source.faults c.args.input.now) (g.S.Source.faults c.gather.new.input) in
+    let comes : ℕ → Outcome → Type 0 = λ count. BuildComesTo count c.args.undirected (all_told g.D.Drive.held olds) input in
+    let leaves = BuildLeaves g.D.Drive.held g.D.Drive.faults (over c.args.unit c.args.number olds) c.args.undirected input olds news in
+    let output = output_between (g.K.Sink.faults c.args.out.now) (g.K.Sink.faults c.write_built.new.out) (g.K.Sink.written c.args.out.now) (g.K.Sink.written c.write_built.new.out) (g.K.Sink.keeps_back c.write_built.new.out) in
+    let count = c.len-count.result in
+    let counted : count ≡ length olds = search rules in
+    let may : MayBuild g.D.Drive.held c.args.undirected input olds c.in-Ok.edges =
+    record { empty = c.in-Ok.ensures.empty; stood = c.in-Ok.ensures.input_kept; of_text = c.in-Ok.ensures.edges } in
+    let built = built_whole g.D.Drive.held g.D.Drive.faults c.args.unit c.args.number c.args.undirected input c.in-Ok.edges c.in-Ok-build.pages olds c.gather.new.drives.items news may
+    c.gather.ensures.held c.in-Ok.ensures.kept c.in-Ok-build.ensures.holds c.in-Ok-build.ensures.counts in
+    let P : ℕ → Type 0 = λ count. Ends g.D.Drive.faults olds news (comes count) leaves output c.status.result in
+    subst P counted (ends_done g.D.Drive.faults olds news (comes count) leaves (built_line count c.in-Ok.edges) output c.status.result built.kept
+    (comes_built g.D.Drive.held count c.args.undirected input olds c.in-Ok.edges may) built (inr (c.in-Err-write_built.ensures.counted.failed, c.in-Err-write_built.ensures.part, c.status.ensures)))
+
+pub returns-in-Err-write_built-clause-drives : goal.returns-in-Err-write_built-clause-drives
+returns-in-Err-write_built-clause-drives g c =
+    let olds = c.args.drives.now.items in
+    let input = input_over (g.S.Source.left c.args.input.now) (g.S.Source.faults c.args.input.now) (g.S.Source.faults c.gather.new.input) in
+    let may : MayBuild g.D.Drive.held c.args.undirected input olds c.in-Ok.edges =
+    record { empty = c.in-Ok.ensures.empty; stood = c.in-Ok.ensures.input_kept; of_text = c.in-Ok.ensures.edges } in
+    inr (inl (built_whole g.D.Drive.held g.D.Drive.faults c.args.unit c.args.number c.args.undirected input c.in-Ok.edges c.in-Ok-build.pages
+    olds c.gather.new.drives.items c.build.new.drives.items may c.gather.ensures.held c.in-Ok.ensures.kept c.in-Ok-build.ensures.holds c.in-Ok-build.ensures.counts))
+
+pub returns-in-Err-write_built-clause-sure : goal.returns-in-Err-write_built-clause-sure
+returns-in-Err-write_built-clause-sure g c =
+    kept_built g.D.Drive.room g.D.Drive.faults c.args.unit c.args.number c.args.undirected (g.S.Source.left c.args.input.now) c.in-Ok.edges
+    c.args.drives.now.items c.gather.new.drives.items c.build.new.drives.items c.in-Ok.ensures.edges c.gather.ensures.room c.in-Ok.ensures.kept c.build.ensures.sure
+
+pub returns-in-Err-write_built-clause-reads : goal.returns-in-Err-write_built-clause-reads
+returns-in-Err-write_built-clause-reads g c =
+    EachSame-more g.D.Drive.log c.args.drives.now.items c.gather.new.drives.items c.build.new.drives.items c.gather.ensures.log c.build.ensures.log
+
+pub returns-clause-ends : goal.returns-clause-ends
+returns-clause-ends g c =
+    let olds = c.args.drives.now.items in
+    let news = c.build.new.drives.items in
+    let input = input_over (g.S.Source.left c.args.input.now) (g.S.Source.faults c.args.input.now) (g.S.Source.faults c.gather.new.input) in
+    let comes : ℕ → Outcome → Type 0 = λ count. BuildComesTo count c.args.undirected (all_told g.D.Drive.held olds) input in
+    let leaves = BuildLeaves g.D.Drive.held g.D.Drive.faults (over c.args.unit c.args.number olds) c.args.undirected input olds news in
+    let output = output_between (g.K.Sink.faults c.args.out.now) (g.K.Sink.faults c.write_built.new.out) (g.K.Sink.written c.args.out.now) (g.K.Sink.written c.write_built.new.out) (g.K.Sink.keeps_back c.write_built.new.out) in
+    let count = c.len-count.result in
+    let counted : count ≡ length olds = search rules in
+    let may : MayBuild g.D.Drive.held c.args.undirected input olds c.in-Ok.edges =
+    record { empty = c.in-Ok.ensures.empty; stood = c.in-Ok.ensures.input_kept; of_text = c.in-Ok.ensures.edges } in
+    let built = built_whole g.D.Drive.held g.D.Drive.faults c.args.unit c.args.number c.args.undirected input c.in-Ok.edges c.in-Ok-build.pages olds c.gather.new.drives.items news may
+    c.gather.ensures.held c.in-Ok.ensures.kept c.in-Ok-build.ensures.holds c.in-Ok-build.ensures.counts in
+    let P : ℕ → Type 0 = λ count. Ends g.D.Drive.faults olds news (comes count) leaves output 0 in
+    subst P counted (ends_done g.D.Drive.faults olds news (comes count) leaves (built_line count c.in-Ok.edges) output 0 built.kept
+    (comes_built g.D.Drive.held count c.args.undirected input olds c.in-Ok.edges may) built (inl (c.in_default.ensures.counted.kept, c.in_default.ensures.whole, c.in_default.ensures.handed, refl)))
+
+pub returns-clause-drives : goal.returns-clause-drives
+returns-clause-drives g c =
+    let olds = c.args.drives.now.items in
+    let input = input_over (g.S.Source.left c.args.input.now) (g.S.Source.faults c.args.input.now) (g.S.Source.faults c.gather.new.input) in
+    let may : MayBuild g.D.Drive.held c.args.undirected input olds c.in-Ok.edges =
+    record { empty = c.in-Ok.ensures.empty; stood = c.in-Ok.ensures.input_kept; of_text = c.in-Ok.ensures.edges } in
+    inr (inl (built_whole g.D.Drive.held g.D.Drive.faults c.args.unit c.args.number c.args.undirected input c.in-Ok.edges c.in-Ok-build.pages
+    olds c.gather.new.drives.items c.build.new.drives.items may c.gather.ensures.held c.in-Ok.ensures.kept c.in-Ok-build.ensures.holds c.in-Ok-build.ensures.counts))
+
+pub returns-clause-built : goal.returns-clause-built
+returns-clause-built g c =
+    let olds = c.args.drives.now.items in
+    let input = input_over (g.S.Source.left c.args.input.now) (g.S.Source.faults c.args.input.now) (g.S.Source.faults c.gather.new.input) in
+    let may : MayBuild g.D.Drive.held c.args.undirected input olds c.in-Ok.edges =
+    record { empty = c.in-Ok.ensures.empty; stood = c.in-Ok.ensures.input_kept; of_text = c.in-Ok.ensures.edges } in
+    λ zero. built_whole g.D.Drive.held g.D.Drive.faults c.args.unit c.args.number c.args.undirected input c.in-Ok.edges c.in-Ok-build.pages
+    olds c.gather.new.drives.items c.build.new.drives.items may c.gather.ensures.held c.in-Ok.ensures.kept c.in-Ok-build.ensures.holds c.in-Ok-build.ensures.counts
+
+pub returns-clause-sure : goal.returns-clause-sure
+returns-clause-sure g c =
+    kept_built g.D.Drive.room g.D.Drive.faults c.args.unit c.args.number c.args.undirected (g.S.Source.left c.args.input.now) c.in-Ok.edges
+    c.args.drives.now.items c.gather.new.drives.items c.build.new.drives.items c.in-Ok.ensures.edges c.gather.ensures.room c.in-Ok.ensures.kept c.build.ensures.sure
+
+pub returns-clause-reads : goal.returns-clause-reads
+returns-clause-reads g c =
+    EachSame-more g.D.Drive.log c.args.drives.now.items c.gather.new.drives.items c.build.new.drives.items c.gather.ensures.log c.build.ensures.log

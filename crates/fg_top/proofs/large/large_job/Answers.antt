@@ -1,0 +1,35 @@
+use Rattle.std.proofs.Common.{refl, arith}
+use Rattle.fg_build.specs.Layouts.{plan_of}
+use Rattle.fg_build.proofs.BuiltLaws.{PlanFits}
+use Rattle.fg_outside.specs.contracts.room_drive.RoomDriveDrive.TheImpl.{held-value, room-value, faults-value}
+use Rattle.fg_top.specs.Ends.{LeavesHeld, output_between}
+use Rattle.fg_top.specs.Tallies.{tallied}
+use Rattle.fg_top.proofs.MadeEnds.{ends_generated, means_generated, none_fails, tally_generated}
+use Rattle.fg_top.proofs.MadeLaws.{open_to_edges}
+use Rattle.fg_top.proofs.large.large_job.Goals as goal
+
+pub returns-clause-ends : goal.returns-clause-ends
+returns-clause-ends g c =
+    let plan = plan_of c.args.count c.args.unit 0 in
+    let fits : PlanFits plan = record { some_drives = c.requires.some; few_drives = c.requires.few; some_unit = c.requires.some_unit; small_unit = c.requires.small_unit; number_fits = omega arith } in
+    ends_generated held-value.it faults-value.it plan c.args.recipe c.args.wish c.in-Ok.drives.items c.run_job.new.drives.items
+    (LeavesHeld held-value.it c.in-Ok.drives.items c.run_job.new.drives.items) (output_between (g.K.Sink.faults c.args.out.now) (g.K.Sink.faults c.run_job.new.out) (g.K.Sink.written c.args.out.now) (g.K.Sink.written c.run_job.new.out) (g.K.Sink.keeps_back c.run_job.new.out)) c.run_job.result
+    (λ edges are. open_to_edges plan edges fits are)
+    c.in-Ok.ensures.made (none_fails room-value.it faults-value.it c.in-Ok.drives.items c.run_job.new.drives.items (λ drive. refl) c.run_job.ensures.sure) c.run_job.ensures.ends
+
+pub returns-clause-tally : goal.returns-clause-tally
+returns-clause-tally g c =
+    let plan = plan_of c.args.count c.args.unit 0 in
+    let fits : PlanFits plan = record { some_drives = c.requires.some; few_drives = c.requires.few; some_unit = c.requires.some_unit; small_unit = c.requires.small_unit; number_fits = omega arith } in
+    λ zero. tally_generated held-value.it faults-value.it plan c.args.recipe c.args.wish c.in-Ok.drives.items
+    (tallied (g.T.Tally.runs c.args.tally.now) (g.T.Tally.runs c.run_job.new.tally) (g.T.Tally.entries c.args.tally.now) (g.T.Tally.entries c.run_job.new.tally))
+    (λ edges are. open_to_edges plan edges fits are)
+    c.in-Ok.ensures.made (c.run_job.ensures.tally zero)
+
+pub returns-clause-means : goal.returns-clause-means
+returns-clause-means g c =
+    let plan = plan_of c.args.count c.args.unit 0 in
+    let fits : PlanFits plan = record { some_drives = c.requires.some; few_drives = c.requires.few; some_unit = c.requires.some_unit; small_unit = c.requires.small_unit; number_fits = omega arith } in
+    λ zero. means_generated held-value.it faults-value.it plan c.args.recipe c.args.wish c.in-Ok.drives.items
+    (λ edges are. open_to_edges plan edges fits are)
+    c.in-Ok.ensures.made (c.run_job.ensures.means zero)
