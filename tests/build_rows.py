@@ -1,5 +1,5 @@
 """Rows of builds, with runs on the drives that they left, of their refusals in order, and of generated edges."""
-from images import PAGE, built_line, changed, drives_of, image_of, joined, padded
+from images import PAGE, built_line, changed, drives_of, image_of, joined, label, padded
 from samples import (
     DETOUR, DETOUR_TEXT, G1, G1_BUILT, G1_DRIVE, G1_EDGES, G1_TEXT, HEADER, INDEX, LONG_DEGREES, LONG_STAR, LONG_TEXT,
     LOOP, LOOP_TEXT, PAIR, RANK_TEXT, STAR, WEIGHTED, WEIGHTED_TEXT, star_text)
@@ -161,6 +161,10 @@ REFUSALS = [
     unbuilt('a drive that is a folder', b'0 1\n', 'drive 0 failed', 'build .', status=5, made=()),
     unbuilt('a second drive that is a folder, before a line that is no edge', b'x', 'drive 1 failed', 'build D0 .',
             status=5),
+    # appends that fail
+    unbuilt('a drive that takes no page', b'0 1\n', 'drive 0 failed', 'build /dev/full', status=5, made=()),
+    Row('a second drive that takes no page',
+        [Call('build D0 /dev/full', 'refused: drive 1 failed\n', 5, text_of_edges(G1_EDGES), leaves=one(label(0, 2, 16, 4)))]),
     # the words, before the drives
     refused('a build without a drive', 'build', 'words missing drive', 2, {}),
     refused('a unit of no page', 'build --unit 0 D0', 'words range unit', 2, one(FULL)),
@@ -172,6 +176,7 @@ GENERATED = [
     prints('three generated edges', 'gen --start 42 --nodes 10 --edges 3', '# gen 42 10 3\n3 7\n4 5\n5 6\n', {}),
     prints('no generated edge', 'gen --start 0 --nodes 1 --edges 0', '# gen 0 1 0\n', {}),
     prints('generated edges that no output takes', 'gen --start 1 --nodes 9 --edges 9', '', {}, 4, output='/dev/full'),
+    prints('more of them than are gathered', 'gen --start 1 --nodes 9 --edges 100000', '', {}, 4, output='/dev/full'),
     prints('a run on generated edges', 'large --start 42 --nodes 10 --edges 3 --program bfs --source 4',
            'program bfs vertices 8 out 3 in 3\niteration 0 phase 0 active 1 messages 1\n'
            'iteration 1 phase 0 active 1 messages 1\niteration 2 phase 0 active 1 messages 0\nsettled 3\nsum 3\n', {}),

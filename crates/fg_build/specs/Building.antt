@@ -25,10 +25,11 @@ SaysEmpty (Err (Refusal.NotEmpty drive)) helds = IsFirstFull drive helds
 SaysEmpty (Err (Refusal.DriveFault drive)) helds = AreEmpty (take drive helds)
 SaysEmpty (Err refusal) helds = ⊥
 
--- whose count of faults rose by an answer of looking: the named drive's first, or none
+-- whose count of faults rose by an answer of looking: the named drive's first, or none; a drive that isn't empty is one of them,
+-- also where they don't tell what they hold
 abbrev pub EmptyCounts : {D : Type 0} → (D → ℕ) → List D → List D → Result Unit Refusal → Type 0
 EmptyCounts faults olds news (Ok unit) = NoneRose faults olds news
-EmptyCounts faults olds news (Err (Refusal.NotEmpty drive)) = NoneRose faults olds news
+EmptyCounts faults olds news (Err (Refusal.NotEmpty drive)) = (drive < length olds) × NoneRose faults olds news
 EmptyCounts faults olds news (Err (Refusal.DriveFault drive)) = RoseFirst faults drive olds news
 EmptyCounts faults olds news (Err refusal) = ⊥
 

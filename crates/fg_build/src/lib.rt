@@ -1,7 +1,8 @@
-//! Drives that hold an image together: opening them, and reading the image.
+//! Drives that hold an image together: building it over them, opening them, and reading the image.
 //!
-//! Below stand the drives of the outside, their labels and striping, and the image with its header and index. What runs on an
-//! image opens its drives here, and knows them by what opening answered.
+//! Below stand the drives of the outside, their labels and striping, and the image with its header and index. What builds
+//! an image looks first whether its drives are empty; what runs on one opens its drives here, and knows them by what opening
+//! answered.
 #![tactic(auto)]
 
 mod appending;

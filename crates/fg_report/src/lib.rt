@@ -1,6 +1,6 @@
 //! The printed text: the lines of a run, of values, of their sum and of refusals, exact to the byte.
 //!
-//! It stands on the base, the outside and the model. Above, every job writes its text through these calls alone.
+//! It stands on the base, the outside and the model. Above, a run and every refusal write their text through these calls alone.
 #![tactic(auto)]
 
 mod line;

@@ -1,6 +1,7 @@
 -- What a build leaves on its drives, by what looking at them and building did.
-use Rattle.std.proofs.Common.{◌≡◌, ◌≢◌, ◌∙◌, ℕ, ◌/◌, Bool, Option, None, Some, IsSome, Result, Ok, Err, List, ◌⊎◌, ⊎_elim, length, refl, sym, ap, subst, inl, inr}
+use Rattle.std.proofs.Common.{◌≡◌, ◌≢◌, ◌∙◌, ℕ, ◌/◌, Bool, Option, None, Some, IfSome, IsSome, Result, Ok, Err, List, ◌⊎◌, ⊎_elim, length, refl, sym, ap, subst, inl, inr}
 use Rattle.fg_base.specs.Faults.{Rose}
+use Rattle.fg_base.specs.Refusal.{status_of}
 use Rattle.fg_base.specs.Told.{grown, GrewByFirst}
 use Rattle.fg_base.specs.declared.refusal.Refusal.{Refusal}
 use Rattle.fg_build.specs.Answers.{ReadCounts}
@@ -12,8 +13,8 @@ use Rattle.fg_outside.specs.Pages.{HasRoom}
 use Rattle.fg_outside.proofs.DriveLemmas.{EachDrive-both, EachDrive-length, EachDrive-numbered, EachDriveFrom-more, EachDriveFrom-weaker, EachSame-more, RoseFirst-after}
 use Rattle.fg_report.specs.Refusals.{refusal_line}
 use Rattle.fg_text.specs.Text.{read_text}
-use Rattle.fg_top.specs.BuildOutcome.{BuildComesTo, Input}
-use Rattle.fg_top.specs.Built.{AreBuilt, AreLeft, AreOfText, BuildLeaves, IsKeptBy, IsKeptByBuild, MayBuild}
+use Rattle.fg_top.specs.BuildOutcome.{BuildComesTo, Input, built_line}
+use Rattle.fg_top.specs.Built.{AreBuilt, AreBuiltAsWritten, AreLeft, AreOfText, BuildLeaves, IsKeptBy, IsKeptByBuild, MayBuild}
 use Rattle.fg_top.specs.Ends.{IsCause, IsWritten, Output}
 use Rattle.fg_top.proofs.BuildEnds.{cut_build}
 
@@ -43,28 +44,38 @@ over_same : {D A : Type 0} (of : D → A) (unit number : ℕ) (olds betweens : L
 over_same of unit number olds betweens same =
     ap (λ count. record { drives = count; unit = unit; number = number }) (EachDrive-length (λ old new. of new ≡ of old) olds betweens same)
 
--- the image was built
+-- the image was built, of the edges of this line
+pub built_as_written : {D : Type 0} (held : D → Option (List ℕ)) (faults : D → ℕ) (unit number : ℕ) (undirected : Bool) (input : Input) (edges : EdgeList)
+    (pages : ℕ) (line : List ℕ) (olds betweens news : List D) → MayBuild held undirected input olds edges → EachSame held olds betweens → NoneRose faults olds betweens →
+    Builds held (over unit number betweens) edges betweens news (Ok pages) → ReadCounts {A = ℕ} faults betweens news (Ok pages) → line ≡ built_line (length olds) edges →
+    AreBuiltAsWritten held faults (over unit number olds) undirected input olds news line
+built_as_written held faults unit number undirected input edges pages line olds betweens news may same kept holds counts is_line =
+    let P : Plan → Type 0 = λ plan. HoldImage held plan edges olds news in
+    record {
+      built = record {
+        edges = edges;
+        may = may;
+        holds = subst P (over_same held unit number olds betweens same) (image_after held (over unit number betweens) edges olds betweens news same holds);
+        kept = EachSame-more faults olds betweens news kept counts;
+      };
+      is_line = is_line;
+    }
+
 pub built_whole : {D : Type 0} (held : D → Option (List ℕ)) (faults : D → ℕ) (unit number : ℕ) (undirected : Bool) (input : Input) (edges : EdgeList)
     (pages : ℕ) (olds betweens news : List D) → MayBuild held undirected input olds edges → EachSame held olds betweens → NoneRose faults olds betweens →
     Builds held (over unit number betweens) edges betweens news (Ok pages) → ReadCounts {A = ℕ} faults betweens news (Ok pages) →
     AreBuilt held faults (over unit number olds) undirected input olds news
 built_whole held faults unit number undirected input edges pages olds betweens news may same kept holds counts =
-    let P : Plan → Type 0 = λ plan. HoldImage held plan edges olds news in
-    record {
-      edges = edges;
-      may = may;
-      holds = subst P (over_same held unit number olds betweens same) (image_after held (over unit number betweens) edges olds betweens news same holds);
-      kept = EachSame-more faults olds betweens news kept counts;
-    }
+    (built_as_written held faults unit number undirected input edges pages (built_line (length olds) edges) olds betweens news may same kept holds counts refl).built
 
 -- building was refused
 pub leaves_refused : {D : Type 0} (held : D → Option (List ℕ)) (faults : D → ℕ) (unit number : ℕ) (undirected : Bool) (input : Input) (edges : EdgeList)
-    (refusal : Refusal) (olds betweens news : List D) → MayBuild held undirected input olds edges → EachSame held olds betweens → NoneRose faults olds betweens →
+    (refusal : Refusal) (text : List ℕ) (olds betweens news : List D) → MayBuild held undirected input olds edges → EachSame held olds betweens → NoneRose faults olds betweens →
     Builds held (over unit number betweens) edges betweens news (Err refusal) → ReadCounts {A = ℕ} faults betweens news (Err refusal) →
-    BuildLeaves held faults (over unit number olds) undirected input olds news (Some refusal)
-leaves_refused held faults unit number undirected input edges Refusal.Memory olds betweens news may same kept holds counts =
+    BuildLeaves held faults (over unit number olds) undirected input olds news (Some refusal) text
+leaves_refused held faults unit number undirected input edges Refusal.Memory text olds betweens news may same kept holds counts =
     EachSame-more held olds betweens news same holds
-leaves_refused held faults unit number undirected input edges (Refusal.DriveFault drive) olds betweens news may same kept holds counts =
+leaves_refused held faults unit number undirected input edges (Refusal.DriveFault drive) text olds betweens news may same kept holds counts =
     let P : Plan → Type 0 = λ plan. HoldFirst held plan edges olds news in
     inr (record {
       edges = edges;
@@ -72,29 +83,29 @@ leaves_refused held faults unit number undirected input edges (Refusal.DriveFaul
       holds = subst P (over_same held unit number olds betweens same) (first_after held (over unit number betweens) edges olds betweens news same holds);
       rose = RoseFirst-after faults drive olds betweens news kept counts;
     })
-leaves_refused held faults unit number undirected input edges refusal olds betweens news may same kept holds counts = absurd holds
+leaves_refused held faults unit number undirected input edges refusal text olds betweens news may same kept holds counts = absurd holds
 
 -- what is left by an end is left by some end
-pub left_by : {D : Type 0} (held : D → Option (List ℕ)) (faults : D → ℕ) (plan : Plan) (undirected : Bool) (input : Input) (olds news : List D) (refusal : Refusal) →
-    BuildLeaves held faults plan undirected input olds news (Some refusal) → AreLeft held faults plan undirected input olds news
-left_by held faults plan undirected input olds news (Refusal.DriveFault drive) leaves = ⊎_elim (λ same. inl same) (λ part. inr (inr (drive, part))) leaves
-left_by held faults plan undirected input olds news refusal leaves = inl leaves
+pub left_by : {D : Type 0} (held : D → Option (List ℕ)) (faults : D → ℕ) (plan : Plan) (undirected : Bool) (input : Input) (olds news : List D) (refusal : Refusal) (text : List ℕ) →
+    BuildLeaves held faults plan undirected input olds news (Some refusal) text → AreLeft held faults plan undirected input olds news
+left_by held faults plan undirected input olds news (Refusal.DriveFault drive) text leaves = ⊎_elim (λ same. inl same) (λ part. inr (inr (drive, part))) leaves
+left_by held faults plan undirected input olds news refusal text leaves = inl leaves
 
 -- drives that hold what they held are left so by any refusal
-pub leaves_held : {D : Type 0} (held : D → Option (List ℕ)) (faults : D → ℕ) (plan : Plan) (undirected : Bool) (input : Input) (olds news : List D) (refusal : Refusal) →
-    EachSame held olds news → BuildLeaves held faults plan undirected input olds news (Some refusal)
-leaves_held held faults plan undirected input olds news (Refusal.DriveFault drive) same = inl same
-leaves_held held faults plan undirected input olds news refusal same = same
+pub leaves_held : {D : Type 0} (held : D → Option (List ℕ)) (faults : D → ℕ) (plan : Plan) (undirected : Bool) (input : Input) (olds news : List D) (refusal : Refusal) (text : List ℕ) →
+    EachSame held olds news → BuildLeaves held faults plan undirected input olds news (Some refusal) text
+leaves_held held faults plan undirected input olds news (Refusal.DriveFault drive) text same = inl same
+leaves_held held faults plan undirected input olds news refusal text same = same
 
 -- why building was refused
 pub cause_of_building : {D : Type 0} (faults : D → ℕ) (drives : ℕ) (undirected : Bool) (told : Option (List (List ℕ))) (input : Input)
-    (refusal : Refusal) (olds betweens news : List D) → input.new_faults ≡ input.old_faults → NoneRose faults olds betweens →
+    (refusal : Refusal) (olds betweens news : List D) → IfSome told (λ helds. length helds ≡ drives) → input.new_faults ≡ input.old_faults → NoneRose faults olds betweens →
     ReadCounts {A = ℕ} faults betweens news (Err refusal) → IsCause faults olds news (BuildComesTo drives undirected told input) (Some refusal) (refusal_line refusal)
-cause_of_building faults drives undirected told input Refusal.Memory olds betweens news stood kept counts =
-    cut_build drives undirected told input (refusal_line Refusal.Memory) stood
-cause_of_building faults drives undirected told input (Refusal.DriveFault drive) olds betweens news stood kept counts =
-    (RoseFirst-after faults drive olds betweens news kept counts, cut_build drives undirected told input (refusal_line (Refusal.DriveFault drive)) stood)
-cause_of_building faults drives undirected told input refusal olds betweens news stood kept counts = absurd counts
+cause_of_building faults drives undirected told input Refusal.Memory olds betweens news many stood kept counts =
+    cut_build drives undirected told input (refusal_line Refusal.Memory) many stood
+cause_of_building faults drives undirected told input (Refusal.DriveFault drive) olds betweens news many stood kept counts =
+    (RoseFirst-after faults drive olds betweens news kept counts, cut_build drives undirected told input (refusal_line (Refusal.DriveFault drive)) many stood)
+cause_of_building faults drives undirected told input refusal olds betweens news many stood kept counts = absurd counts
 
 pub building_not_output : {D : Type 0} (faults : D → ℕ) (olds news : List D) (refusal : Refusal) → ReadCounts {A = ℕ} faults olds news (Err refusal) → refusal ≢ Refusal.OutputFault
 building_not_output faults olds news refusal counts is =
@@ -109,6 +120,20 @@ unbuilt_refused held faults plan edges Refusal.Memory olds betweens news output 
 unbuilt_refused held faults plan edges (Refusal.DriveFault drive) olds betweens news output text status same holds written not_four not_five =
     absurd (⊎_elim (λ whole. not_five whole.3) (λ failed. not_four failed.2) written)
 unbuilt_refused held faults plan edges refusal olds betweens news output text status same holds written not_four not_five = absurd holds
+
+-- nor does building answer for what the drives held
+pub building_not_held : {D : Type 0} (faults : D → ℕ) (olds news : List D) (refusal : Refusal) → ReadCounts {A = ℕ} faults olds news (Err refusal) → status_of refusal ≢ 7
+building_not_held faults olds news Refusal.Memory counts is = cc
+building_not_held faults olds news (Refusal.DriveFault drive) counts is = cc
+building_not_held faults olds news refusal counts is = absurd counts
+
+-- status 7 is that of the refusal whose line was written
+pub held_status : (output : Output) (refusal : Refusal) (text : List ℕ) (status : ℕ) → IsWritten output (Some refusal) text status → status ≡ 7 → status_of refusal ≡ 7
+held_status output refusal text status written is =
+    elim written [
+      | inl whole ↦ sym whole.3 ∙ is
+      | inr failed ↦ let four : ◌≡◌ {A = ℕ} 4 7 = sym failed.2 ∙ is in cc
+    ]
 
 -- where the input's count rose, the status is that of the input or of the output
 pub input_status : (before after : ℕ) (refusal : Refusal) (output : Output) (text : List ℕ) (status : ℕ) →

@@ -11,7 +11,7 @@ use Rattle.fg_base.proofs.ToldLemmas.{grown-grown}
 use Rattle.fg_outside.specs.Drives.{NoneRose, RoseFirst}
 use Rattle.fg_outside.proofs.DriveLemmas.{EachSame-more, RoseFirst-after}
 use Rattle.fg_report.specs.Refusals.{refusal_line}
-use Rattle.fg_top.specs.Ends.{Ends, EndsAlone, IsCause, IsCutShort, IsOutcome, IsWritten, Output, output_between}
+use Rattle.fg_top.specs.Ends.{Ends, EndsAlone, EndsLeaving, IsCause, IsCutShort, IsOutcome, IsWritten, Output, output_between}
 use Rattle.fg_top.specs.Outcome.{Close, Done, Outcome, at_once}
 
 -- an outcome with these texts before its own
@@ -166,8 +166,8 @@ refused_status output refusal text status written is_zero =
     ]
 
 -- a job that is done, whose whole text comes at once
-pub ends_done : {D : Type 0} (faults : D → ℕ) (olds news : List D) (comes : Outcome → Type 0) (leaves : Option Refusal → Type 0) (text : List ℕ) (output : Output) (status : ℕ) →
-    NoneRose faults olds news → comes (at_once (Done text)) → leaves None → IsWritten output None text status → Ends faults olds news comes leaves output status
+pub ends_done : {D : Type 0} (faults : D → ℕ) (olds news : List D) (comes : Outcome → Type 0) (leaves : Option Refusal → List ℕ → Type 0) (text : List ℕ) (output : Output) (status : ℕ) →
+    NoneRose faults olds news → comes (at_once (Done text)) → leaves None text → IsWritten output None text status → EndsLeaving faults olds news comes leaves output status
 ends_done faults olds news comes leaves text output status kept is left written = record {
   end = None;
   text = text;

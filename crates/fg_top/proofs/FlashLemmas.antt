@@ -13,13 +13,13 @@ use Rattle.fg_text.specs.Generator.{generated_text}
 use Rattle.fg_top.specs.declared.jobs.Job.{Job}
 use Rattle.fg_top.specs.declared.jobs.JobFault.{JobFault}
 use Rattle.fg_top.specs.BuildOutcome.{Input, input_over}
-use Rattle.fg_top.specs.Ends.{Ends, IsCutShort, IsWritten, Output}
+use Rattle.fg_top.specs.Ends.{EndsLeaving, IsCutShort, IsWritten, Output}
 use Rattle.fg_top.specs.GenOutcome.{IsGenerated}
 use Rattle.fg_top.specs.JobLeaves.{CountsInput, KeepsBy, LeavesAt, LeavesBy, TakesBy}
 use Rattle.fg_top.specs.JobOutcome.{ComesTo, GivenComesTo, JobComesTo}
 use Rattle.fg_top.specs.Jobs.{HasDrives}
-use Rattle.fg_top.specs.LargeOutcome.{generated, large_outcome, recipe_for}
-use Rattle.fg_top.specs.Outcome.{Done, Refuses, at_once, wish_for}
+use Rattle.fg_top.specs.LargeOutcome.{generated_graph, recipe_for}
+use Rattle.fg_top.specs.Outcome.{Done, Refuses, at_once, outcome_on, wish_for}
 use Rattle.fg_top.specs.Reads.{ReadsBy, ref_reads}
 use Rattle.fg_top.specs.Running.{words_refusal}
 use Rattle.fg_top.specs.Words.{IsJobOf, job_of, names_of}
@@ -30,21 +30,21 @@ use Rattle.fg_top.proofs.WordJobs.{named_drives}
 
 -- words for which memory was wanting, where nothing was read
 cut_given : (given : Result Job WordFault) (drives : ℕ) (told : Option (List (List ℕ))) (left : Option (List ℕ)) (faults : ℕ) (last : List ℕ) →
-    IsCutShort (GivenComesTo given drives told (input_over left faults faults)) last last
-cut_given (Err fault) drives told left faults last = record { outcome = at_once (Refuses (Refusal.Words fault)); is_one = refl; count = 0; text_is = refl }
-cut_given (Ok (Job.Build unit number undirected)) drives told left faults last =
-    let cut = cut_build drives undirected told (input_over left faults faults) last refl in
+    IfSome told (λ helds. length helds ≡ drives) → IsCutShort (GivenComesTo given drives told (input_over left faults faults)) last last
+cut_given (Err fault) drives told left faults last many = record { outcome = at_once (Refuses (Refusal.Words fault)); is_one = refl; count = 0; text_is = refl }
+cut_given (Ok (Job.Build unit number undirected)) drives told left faults last many =
+    let cut = cut_build drives undirected told (input_over left faults faults) last many refl in
     record { outcome = cut.outcome; is_one = cut.is_one; count = cut.count; text_is = cut.text_is }
-cut_given (Ok (Job.Run pick max each quiet)) drives told left faults last =
+cut_given (Ok (Job.Run pick max each quiet)) drives told left faults last many =
     let cut = cut_at_once (wish_for pick max each quiet) told last in
     record { outcome = cut.outcome; is_one = cut.is_one; count = cut.count; text_is = cut.text_is }
-cut_given (Ok (Job.Ref pick max each quiet)) drives told left faults last =
+cut_given (Ok (Job.Ref pick max each quiet)) drives told left faults last many =
     let cut = cut_at_once (wish_for pick max each quiet) told last in
     record { outcome = cut.outcome; is_one = cut.is_one; count = cut.count; text_is = cut.text_is }
-cut_given (Ok (Job.Gen start nodes edges)) drives told left faults last =
+cut_given (Ok (Job.Gen start nodes edges)) drives told left faults last many =
     record { outcome = at_once (Done (generated_text start nodes edges)); is_one = refl; count = 0; text_is = refl }
-cut_given (Ok (Job.Large pick max unit undirected start nodes edges made)) drives told left faults last = record {
-  outcome = large_outcome (wish_for pick max false true) (generated (recipe_for start nodes edges undirected));
+cut_given (Ok (Job.Large pick max unit undirected start nodes edges made)) drives told left faults last many = record {
+  outcome = outcome_on (wish_for pick max false true) (generated_graph (recipe_for start nodes edges undirected));
   is_one = refl;
   count = 0;
   text_is = refl;
@@ -58,29 +58,29 @@ pub roomy_same : {D : Type 0} (room : D → Option ℕ) (faults : D → ℕ) (ol
 roomy_same room faults olds = EachDrive-same (λ old new. IsSome (room old) → faults new ≡ faults old) (λ drive told. refl) olds
 
 -- whatever refuses the work, a job may leave them so
-pub leaves_refused_at : {D : Type 0} (held : D → Option (List ℕ)) (faults : D → ℕ) (given : Result Job WordFault) (input : Input) (olds : List D) (refusal : Refusal) →
-    LeavesAt held faults given input olds olds (Some refusal)
-leaves_refused_at held faults (Err fault) input olds refusal = held_same held olds
-leaves_refused_at held faults (Ok (Job.Build unit number undirected)) input olds refusal =
-    leaves_held held faults (plan_of (length olds) unit number) undirected input olds olds refusal (held_same held olds)
-leaves_refused_at held faults (Ok (Job.Run pick max each quiet)) input olds refusal = held_same held olds
-leaves_refused_at held faults (Ok (Job.Ref pick max each quiet)) input olds refusal = held_same held olds
-leaves_refused_at held faults (Ok (Job.Gen start nodes edges)) input olds refusal = held_same held olds
-leaves_refused_at held faults (Ok (Job.Large pick max unit undirected start nodes edges drives)) input olds refusal = held_same held olds
+pub leaves_refused_at : {D : Type 0} (held : D → Option (List ℕ)) (faults : D → ℕ) (given : Result Job WordFault) (input : Input) (olds : List D) (refusal : Refusal) (text : List ℕ) →
+    LeavesAt held faults given input olds olds (Some refusal) text
+leaves_refused_at held faults (Err fault) input olds refusal text = held_same held olds
+leaves_refused_at held faults (Ok (Job.Build unit number undirected)) input olds refusal text =
+    leaves_held held faults (plan_of (length olds) unit number) undirected input olds olds refusal text (held_same held olds)
+leaves_refused_at held faults (Ok (Job.Run pick max each quiet)) input olds refusal text = held_same held olds
+leaves_refused_at held faults (Ok (Job.Ref pick max each quiet)) input olds refusal text = held_same held olds
+leaves_refused_at held faults (Ok (Job.Gen start nodes edges)) input olds refusal text = held_same held olds
+leaves_refused_at held faults (Ok (Job.Large pick max unit undirected start nodes edges drives)) input olds refusal text = held_same held olds
 
 -- the end where the words give no job
 pub ends_unread : {D : Type 0} (held : D → Option (List ℕ)) (faults : D → ℕ) (words : List (List ℕ)) (drives : ℕ) (told : Option (List (List ℕ))) (left : Option (List ℕ)) (count : ℕ) (fault : JobFault)
-    (olds : List D) (output : Output) (status : ℕ) → IsJobOf words (Err fault) →
+    (olds : List D) (output : Output) (status : ℕ) → IfSome told (λ helds. length helds ≡ drives) → IsJobOf words (Err fault) →
     IsWritten output (Some (words_refusal fault)) (refusal_line (words_refusal fault)) status →
-    Ends faults olds olds (ComesTo words drives told (input_over left count count)) (LeavesAt held faults (job_of words) (input_over left count count) olds olds) output status
-ends_unread held faults words drives told left count JobFault.Memory olds output status is written = record {
+    EndsLeaving faults olds olds (ComesTo words drives told (input_over left count count)) (LeavesAt held faults (job_of words) (input_over left count count) olds olds) output status
+ends_unread held faults words drives told left count JobFault.Memory olds output status many is written = record {
   end = Some Refusal.Memory;
   text = refusal_line Refusal.Memory;
-  cause = cut_given (job_of words) drives told left count (refusal_line Refusal.Memory);
-  left = leaves_refused_at held faults (job_of words) (input_over left count count) olds Refusal.Memory;
+  cause = cut_given (job_of words) drives told left count (refusal_line Refusal.Memory) many;
+  left = leaves_refused_at held faults (job_of words) (input_over left count count) olds Refusal.Memory (refusal_line Refusal.Memory);
   written = written;
 }
-ends_unread held faults words drives told left count (JobFault.Words fault) olds output status is written =
+ends_unread held faults words drives told left count (JobFault.Words fault) olds output status many is written =
     let P : Result Job WordFault → Type 0 = λ given. GivenComesTo given drives told (input_over left count count) (at_once (Refuses (Refusal.Words fault))) in
     record {
       end = Some (Refusal.Words fault);
@@ -89,7 +89,7 @@ ends_unread held faults words drives told left count (JobFault.Words fault) olds
         held_same faults olds,
         record { outcome = at_once (Refuses (Refusal.Words fault)); is_one = subst P (sym is) refl; closes = refl; text_is = refl },
       );
-      left = leaves_refused_at held faults (job_of words) (input_over left count count) olds (Refusal.Words fault);
+      left = leaves_refused_at held faults (job_of words) (input_over left count count) olds (Refusal.Words fault) (refusal_line (Refusal.Words fault));
       written = written;
     }
 
@@ -154,10 +154,10 @@ counts_nothing (Ok (Job.Large pick max unit undirected start nodes edges drives)
 -- the end of the job is the end of the call
 pub ends_given : {D : Type 0} (held : D → Option (List ℕ)) (faults : D → ℕ) (words : List (List ℕ)) (drives : ℕ) (told : Option (List (List ℕ))) (input : Input) (job : Job) (olds news : List D)
     (output : Output) (status : ℕ) → job_of words ≡ Ok job →
-    Ends faults olds news (JobComesTo job drives told input) (LeavesAt held faults (Ok job) input olds news) output status →
-    Ends faults olds news (ComesTo words drives told input) (LeavesAt held faults (job_of words) input olds news) output status
+    EndsLeaving faults olds news (JobComesTo job drives told input) (LeavesAt held faults (Ok job) input olds news) output status →
+    EndsLeaving faults olds news (ComesTo words drives told input) (LeavesAt held faults (job_of words) input olds news) output status
 ends_given held faults words drives told input job olds news output status is ends =
-    let P : Result Job WordFault → Type 0 = λ given. Ends faults olds news (GivenComesTo given drives told input) (LeavesAt held faults given input olds news) output status in
+    let P : Result Job WordFault → Type 0 = λ given. EndsLeaving faults olds news (GivenComesTo given drives told input) (LeavesAt held faults given input olds news) output status in
     subst P (sym is) ends
 
 -- an accepted job has the drives that it works on

@@ -16,19 +16,19 @@ use Rattle.fg_outside.specs.Drives.{DriveRead, LogsGrew, LogsGrewBy, LogsGrewByF
 use Rattle.fg_outside.proofs.DriveLemmas.{EachDrive-same, LogsGrew-more, LogsGrewBy-none, LogsGrewByFirst-before, LogsGrewByFirst-more}
 use Rattle.fg_report.specs.Refusals.{refusal_line}
 use Rattle.fg_top.specs.declared.jobs.Wish.{Wish}
-use Rattle.fg_top.specs.Ends.{Ends, EndsAlone, IsCause, IsWritten, output_between}
-use Rattle.fg_top.specs.Outcome.{Done, Outcome, WishComesTo, at_once, head_of, outcome_of, rules_of, run_on, run_outcome, source_of}
+use Rattle.fg_top.specs.Ends.{Ends, EndsAlone, EndsLeaving, IsCause, IsWritten, output_between}
+use Rattle.fg_top.specs.Outcome.{Done, Outcome, WishComesTo, at_once, head_of, held_graph, opened_graph, outcome_of, rules_of, run_in, run_on, run_outcome, source_of}
 use Rattle.fg_top.specs.Reads.{IsAskedBy, RunReads, RunReadsAll, image_reads_of, ref_reads, sourced_reads}
-use Rattle.fg_top.specs.Running.{IsSourced, RunComesTo, behind_head, run_in}
+use Rattle.fg_top.specs.Running.{IsSourced, RunComesTo, behind_head}
 use Rattle.fg_top.specs.Tallies.{RoseByRun, RoseByWish, Tallied}
 use Rattle.fg_top.proofs.EndLemmas.{behind, ends_behind, ends_given_up, ends_in_memory, refused_status}
 use Rattle.fg_top.proofs.OutcomeLemmas.{comes_behind_head, comes_in_memory, le_fails, runs_so}
 
 -- the job ends where a refusal's line was written, or its put or the flush failed
-pub ends_refused : {D : Type 0} (faults : D → ℕ) (olds news : List D) (comes : Outcome → Type 0) (leaves : Option Refusal → Type 0) (refusal : Refusal)
+pub ends_refused : {D : Type 0} (faults : D → ℕ) (olds news : List D) (comes : Outcome → Type 0) (leaves : Option Refusal → List ℕ → Type 0) (refusal : Refusal)
     (f0 f1 : ℕ) (t0 t1 : Option (List ℕ)) (back : Bool) (status : ℕ) → IsCause faults olds news comes (Some refusal) (refusal_line refusal) →
-    leaves (Some refusal) → IsWritten (output_between f0 f1 t0 t1 back) (Some refusal) (refusal_line refusal) status →
-    Ends faults olds news comes leaves (output_between f0 f1 t0 t1 back) status
+    leaves (Some refusal) (refusal_line refusal) → IsWritten (output_between f0 f1 t0 t1 back) (Some refusal) (refusal_line refusal) status →
+    EndsLeaving faults olds news comes leaves (output_between f0 f1 t0 t1 back) status
 ends_refused faults olds news comes leaves refusal f0 f1 t0 t1 back status cause left written =
     record { end = Some refusal; text = refusal_line refusal; cause = cause; left = left; written = written }
 
@@ -46,7 +46,7 @@ some_run-is wish (Some helds) run_of = refl
 -- the job ends where the put of the head failed
 pub ends_at_head : {D : Type 0} (faults : D → ℕ) (olds news : List D) (wish : Wish) (told : Option (List (List ℕ))) (header : Header) (run_of : List (List ℕ) → Run)
     (leaves : Option Refusal → Type 0) (f0 f1 : ℕ) (t0 t1 : Option (List ℕ)) (back : Bool) (status : ℕ) →
-    IfSome told (λ helds. outcome_of wish helds ≡ run_outcome wish header (run_of helds)) → leaves (Some Refusal.Memory) → Rose f0 f1 →
+    IfSome told (λ helds. outcome_of wish helds ≡ run_outcome wish (head_of wish.pick header) (run_of helds)) → leaves (Some Refusal.Memory) → Rose f0 f1 →
     GrewByFirst (head_of wish.pick header) t0 t1 → status ≡ 4 →
     Ends faults olds news (WishComesTo wish told) leaves (output_between f0 f1 t0 t1 back) status
 ends_at_head faults olds news wish told header run_of leaves f0 f1 t0 t1 back status so left rose grew failed =
@@ -59,7 +59,7 @@ ends_at_head faults olds news wish told header run_of leaves f0 f1 t0 t1 back st
 -- the end of the run behind the head is the job's end
 pub ends_after_head : {D : Type 0} (faults : D → ℕ) (olds betweens news : List D) (wish : Wish) (told again : Option (List (List ℕ))) (header : Header)
     (run_of : List (List ℕ) → Run) (own leaves : Option Refusal → Type 0) (f0 f1 f2 : ℕ) (t0 t1 t2 : Option (List ℕ)) (back : Bool) (status : ℕ) →
-    again ≡ told → IfSome told (λ helds. outcome_of wish helds ≡ run_outcome wish header (run_of helds)) → NoneRose faults olds betweens → ((end : Option Refusal) → leaves end) →
+    again ≡ told → IfSome told (λ helds. outcome_of wish helds ≡ run_outcome wish (head_of wish.pick header) (run_of helds)) → NoneRose faults olds betweens → ((end : Option Refusal) → leaves end) →
     f1 ≡ f0 → t1 ≡ grown t0 (head_of wish.pick header) →
     Ends faults betweens news (RunComesTo (rules_of wish.pick) wish again run_of) own (output_between f1 f2 t1 t2 back) status →
     Ends faults olds news (WishComesTo wish told) leaves (output_between f0 f2 t0 t2 back) status
@@ -72,7 +72,7 @@ ends_after_head faults olds betweens news wish told again header run_of own leav
 -- the same of a run in memory
 pub ends_in_memory_after_head : {D : Type 0} (faults : D → ℕ) (olds news : List D) (wish : Wish) (told : Option (List (List ℕ))) (header : Header) (graph : Graph)
     (leaves : Option Refusal → Type 0) (f0 f1 f2 : ℕ) (t0 t1 t2 : Option (List ℕ)) (back : Bool) (status : ℕ) →
-    IfSome told (λ helds. outcome_of wish helds ≡ run_outcome wish header (run_in wish graph)) → NoneRose faults olds news → ((end : Option Refusal) → leaves end) →
+    IfSome told (λ helds. outcome_of wish helds ≡ run_outcome wish (head_of wish.pick header) (run_in wish graph)) → NoneRose faults olds news → ((end : Option Refusal) → leaves end) →
     f1 ≡ f0 → t1 ≡ grown t0 (head_of wish.pick header) →
     EndsAlone (RunComesTo (rules_of wish.pick) wish (Some graph) (run_in wish)) (output_between f1 f2 t1 t2 back) status →
     Ends faults olds news (WishComesTo wish told) leaves (output_between f0 f2 t0 t2 back) status
@@ -84,14 +84,14 @@ ends_in_memory_after_head faults olds news wish told header graph leaves f0 f1 f
 -- the outcome of a run over the graph that was read
 pub runs_loaded : (wish : Wish) (told again : Option (List (List ℕ))) (opened : Opened) (graph : Graph) → again ≡ told →
     IfSome told (λ helds. opening_of helds ≡ Ok opened) → IsSourced wish.pick opened.header.n → IfSome again (λ helds. graph ≡ graph_on opened helds) →
-    IfSome told (λ helds. outcome_of wish helds ≡ run_outcome wish opened.header (run_in wish graph))
+    IfSome told (λ helds. outcome_of wish helds ≡ run_outcome wish (head_of wish.pick opened.header) (run_in wish graph))
 runs_loaded wish told again opened graph same opening sourced read =
     let Of : Option (List (List ℕ)) → Type 0 = λ told. IfSome told (λ helds. graph ≡ graph_on opened helds) in
     loaded told (runs_so wish told opened opening sourced) (subst Of same read) where
-      loaded : (told : Option (List (List ℕ))) → IfSome told (λ helds. outcome_of wish helds ≡ run_outcome wish opened.header (run_on wish opened helds)) →
-          IfSome told (λ helds. graph ≡ graph_on opened helds) → IfSome told (λ helds. outcome_of wish helds ≡ run_outcome wish opened.header (run_in wish graph))
+      loaded : (told : Option (List (List ℕ))) → IfSome told (λ helds. outcome_of wish helds ≡ run_outcome wish (head_of wish.pick opened.header) (run_on wish opened helds)) →
+          IfSome told (λ helds. graph ≡ graph_on opened helds) → IfSome told (λ helds. outcome_of wish helds ≡ run_outcome wish (head_of wish.pick opened.header) (run_in wish graph))
       loaded None so read = tt
-      loaded (Some helds) so read = so ∙ ap (λ graph. run_outcome wish opened.header (run_in wish graph)) (sym read)
+      loaded (Some helds) so read = so ∙ ap (λ graph. run_outcome wish (head_of wish.pick opened.header) (run_in wish graph)) (sym read)
 
 -- what is read of the drives by a run in memory: where opening ended, where reading ended, and all
 pub ref_reads_first : {D : Type 0} (log : D → Option (List Read)) (wish : Wish) (told : Option (List (List ℕ))) (olds news : List D) →
@@ -163,11 +163,11 @@ reads_of_all log wish told olds news reads = IfSome_then told reads (λ helds al
 -- the tally of a run that is done
 pub tally_of : (wish : Wish) (told again : Option (List (List ℕ))) (opened : Opened) (tally : Tallied) → again ≡ told →
     IfSome told (λ helds. opening_of helds ≡ Ok opened) → IfSome again (λ helds. RoseByRun (run_on wish opened helds) tally) →
-    IfSome told (λ helds. RoseByWish wish helds (opening_of helds) tally)
+    IfSome told (λ helds. RoseByWish wish (held_graph helds) tally)
 tally_of wish None again opened tally same opening rose = tt
 tally_of wish (Some helds) again opened tally same opening rose =
     let Of : Option (List (List ℕ)) → Type 0 = λ told. IfSome told (λ helds. RoseByRun (run_on wish opened helds) tally) in
-    let By : Result Opened Refusal → Type 0 = λ given. RoseByWish wish helds given tally in
+    let By : Result Opened Refusal → Type 0 = λ given. RoseByWish wish (opened_graph helds given) tally in
     subst By (sym opening) (subst Of same rose)
 
 -- where the status is 0 nothing was refused

@@ -1,38 +1,32 @@
 -- A run on generated edges, by the drives in memory that their image is built on.
-use Rattle.std.proofs.Common.{◌≡◌, ◌≢◌, ◌∙◌, ◌≤◌, ◌<◌, ◌+◌, ◌/◌, ℕ, Bool, zero, suc, Option, None, Some, IfSome, IsSome, Result, Ok, Err, List, [], ◌∷◌, ◌++◌, length, map, nat_le, if◌then◌else◌, refl, sym, ap, subst, arith}
+use Rattle.std.proofs.Common.{◌≡◌, ◌≢◌, ◌∙◌, ◌≤◌, ◌<◌, ◌+◌, ◌/◌, ℕ, Bool, zero, suc, Option, None, Some, IfSome, IsSome, Result, Ok, Err, List, [], ◌∷◌, ◌++◌, length, map, refl, sym, ap, subst, arith}
 use Rattle.std.specs.List.{range_with_len}
 use Rattle.fg_base.specs.Faults.{Rose}
 use Rattle.fg_base.specs.Told.{grown}
 use Rattle.fg_base.specs.declared.refusal.Refusal.{Refusal}
-use Rattle.fg_build.specs.declared.opened.Opened.{Opened}
 use Rattle.fg_build.specs.Answers.{ReadCounts}
 use Rattle.fg_build.specs.Building.{HoldImage, RoomyKeptForImage}
 use Rattle.fg_build.specs.Layouts.{Plan, all_drive_bytes, drive_bytes}
-use Rattle.fg_build.specs.Opening.{graph_on, opening_of}
-use Rattle.fg_image.specs.Made.{graph_of_edges, image_bytes}
+use Rattle.fg_build.specs.Opening.{graph_on}
+use Rattle.fg_image.specs.Made.{image_bytes}
 use Rattle.fg_model.specs.declared.graph.Graph.{Graph}
-use Rattle.fg_model.specs.Run.{Settled}
-use Rattle.fg_walks.specs.Walks.{AreLeastValues, weight}
 use Rattle.fg_model.specs.Edges.{AreEdges, EdgeList}
 use Rattle.fg_outside.specs.Drives.{EachDriveFrom, HasEach, HasEachFrom, NoneRose, RoomyKept, RoseFirst, all_told, told_before}
 use Rattle.fg_outside.specs.Pages.{HasRoom}
 use Rattle.fg_outside.proofs.DriveLemmas.{EachDrive-numbered, EachDrive-weaker, EachDriveFrom-length, HasEachFrom-after}
-use Rattle.fg_report.specs.Lines.{head_line}
 use Rattle.fg_report.specs.Refusals.{refusal_line}
 use Rattle.fg_stripe.specs.declared.layout.Layout.{Layout}
 use Rattle.fg_stripe.specs.Striping.{pages_on}
 use Rattle.fg_text.specs.Generator.{generated_text}
 use Rattle.fg_text.specs.Made.{MadeRefused}
-use Rattle.fg_top.specs.declared.jobs.Pick.{Pick}
 use Rattle.fg_top.specs.declared.jobs.Recipe.{Recipe}
 use Rattle.fg_top.specs.declared.jobs.Wish.{Wish}
 use Rattle.fg_top.specs.Ends.{Ends, EndsAlone, IsCause, IsCutShort, IsOutcome, Output}
-use Rattle.fg_top.specs.LargeOutcome.{LargeComesTo, edges_outcome, generated, large_outcome}
-use Rattle.fg_top.specs.Meaning.{EdgesMean, GeneratedMean, MeansOn, MeansWish}
+use Rattle.fg_top.specs.LargeOutcome.{LargeComesTo, edges_graph, generated_graph}
+use Rattle.fg_top.specs.Meaning.{MeansWish}
 use Rattle.fg_top.specs.MadeDrives.{AreEmptyFor, HoldEdges, HoldGenerated, IsEmptyFor, OpenToEdges}
-use Rattle.fg_top.specs.Outcome.{Close, Outcome, Refuses, WishComesTo, at_once, name_of, opened_outcome, outcome_of, rules_of, run_close, source_of, sourced_outcome, text_of}
-use Rattle.fg_top.specs.Running.{run_in}
-use Rattle.fg_top.specs.Tallies.{RoseByEdges, RoseByRun, RoseByWish, Tallied}
+use Rattle.fg_top.specs.Outcome.{Close, Counted, Outcome, Refuses, WishComesTo, at_once, held_graph, opened_graph, outcome_of, outcome_on}
+use Rattle.fg_top.specs.Tallies.{RoseByWish, Tallied}
 use Rattle.fg_top.proofs.MadeLaws.{drive_pages}
 
 -- one drive more
@@ -150,46 +144,37 @@ none_fails {D} room faults olds news roomy kept =
     let S : D → D → Type 0 = λ old new. faults new ≡ faults old in
     EachDrive-weaker R S (λ old new same. same (roomy old)) olds news kept
 
--- the outcome of a run by the head's numbers and the graph
-abbrev outcome_with : Wish → ℕ → ℕ → ℕ → Graph → Outcome
-outcome_with wish vertices outs ins graph =
-    let rules = rules_of wish.pick in
-    let ran = run_in wish graph in
-    record {
-      lines = head_line (name_of wish.pick) vertices outs ins ∷ map (text_of wish.each rules.show) ran.finished;
-      close = run_close wish.quiet rules.show ran.ending ran.iterations ran.states;
-    }
+-- drives that open to the edges give their graph, with their counts
+opens_graph : (helds : List (List ℕ)) (edges : EdgeList) → OpenToEdges helds edges → held_graph helds ≡ edges_graph (Ok edges)
+opens_graph helds edges opens =
+    let opened = opens.opened in
+    let given : ℕ → ℕ → ℕ → Graph → Result Counted Refusal = λ vertices outs ins graph. Ok (record { vertices = vertices; outs = outs; ins = ins; graph = graph }) in
+    ap (opened_graph helds) opens.opening
+    ∙ ap (λ vertices. given vertices opened.header.out_entries opened.header.in_entries (graph_on opened helds)) opens.vertices
+    ∙ ap (λ outs. given edges.n outs opened.header.in_entries (graph_on opened helds)) opens.outs
+    ∙ ap (λ ins. given edges.n (length edges.pairs) ins (graph_on opened helds)) opens.ins
+    ∙ ap (given edges.n (length edges.pairs) (length edges.pairs)) opens.graph
 
--- what the wish comes to on drives that open to the edges
-opens_outcome : (wish : Wish) (helds : List (List ℕ)) (edges : EdgeList) → OpenToEdges helds edges → outcome_of wish helds ≡ large_outcome wish (Ok edges)
-unfolding outcome_of
-opens_outcome wish helds edges opens = ap (opened_outcome wish helds) opens.opening ∙ sourced (source_of wish.pick) where
-  opened : Opened
-  opened = opens.opened
+-- drives that hold the generated edges tell their bytes, which give the generated graph
+record GiveGenerated {D : Type 0} (held : D → Option (List ℕ)) (recipe : Recipe) (drives : List D) : Type 0 where
+  helds : List (List ℕ)
+  told : all_told held drives ≡ Some helds
+  graph : held_graph helds ≡ generated_graph recipe
 
-  same_run : outcome_with wish opened.header.n opened.header.out_entries opened.header.in_entries (graph_on opened helds)
-      ≡ outcome_with wish edges.n (length edges.pairs) (length edges.pairs) (graph_of_edges edges)
-  same_run =
-      ap (λ vertices. outcome_with wish vertices opened.header.out_entries opened.header.in_entries (graph_on opened helds)) opens.vertices
-      ∙ ap (λ outs. outcome_with wish edges.n outs opened.header.in_entries (graph_on opened helds)) opens.outs
-      ∙ ap (λ ins. outcome_with wish edges.n (length edges.pairs) ins (graph_on opened helds)) opens.ins
-      ∙ ap (outcome_with wish edges.n (length edges.pairs) (length edges.pairs)) opens.graph
-
-  by_source : (source : ℕ) → sourced_outcome wish opened helds (Some source) ≡ edges_outcome wish edges (Some source)
-  by_source source =
-      ap (λ vertices. if nat_le vertices source then at_once (Refuses (Refusal.BadSource source vertices)) else outcome_with wish opened.header.n opened.header.out_entries opened.header.in_entries (graph_on opened helds)) opens.vertices
-      ∙ ap (λ ran. if nat_le edges.n source then at_once (Refuses (Refusal.BadSource source edges.n)) else ran) same_run
-
-  sourced : (own : Option ℕ) → sourced_outcome wish opened helds own ≡ edges_outcome wish edges own
-  sourced None = same_run
-  sourced (Some source) = by_source source
+gives_generated : {D : Type 0} (held : D → Option (List ℕ)) (faults : D → ℕ) (plan : Plan) (recipe : Recipe) (drives : List D) →
+    ((edges : EdgeList) → AreEdges edges → OpenToEdges (all_drive_bytes plan edges) edges) → HoldGenerated held faults plan recipe drives → GiveGenerated held recipe drives
+gives_generated held faults plan recipe drives opens holds =
+    let edges = holds.edges in
+    let helds = all_drive_bytes plan edges in
+    record { helds = helds; told = holds.hold.told; graph = opens_graph helds edges (opens edges holds.hold.are_edges) ∙ ap edges_graph (sym holds.made) }
 
 -- what the wish comes to on drives that hold the generated edges
-comes_generated : (wish : Wish) (recipe : Recipe) (told : Option (List (List ℕ))) (helds : List (List ℕ)) (edges : EdgeList) → told ≡ Some helds → generated recipe ≡ Ok edges →
-    OpenToEdges helds edges → (outcome : Outcome) → WishComesTo wish told outcome → LargeComesTo wish recipe outcome
-comes_generated wish recipe told helds edges is made opens outcome comes =
+comes_generated : {D : Type 0} (held : D → Option (List ℕ)) (wish : Wish) (recipe : Recipe) (drives : List D) → GiveGenerated held recipe drives →
+    (outcome : Outcome) → WishComesTo wish (all_told held drives) outcome → LargeComesTo wish recipe outcome
+unfolding outcome_of
+comes_generated held wish recipe drives gives outcome comes =
     let P : Option (List (List ℕ)) → Type 0 = λ told. WishComesTo wish told outcome in
-    subst P is comes ∙ opens_outcome wish helds edges opens ∙ ap (large_outcome wish) (sym made)
+    subst P gives.told comes ∙ ap (outcome_on wish) gives.graph
 
 outcome_so : (comes other : Outcome → Type 0) → ((outcome : Outcome) → comes outcome → other outcome) → (close : Close) (last text : List ℕ) →
     IsOutcome comes close last text → IsOutcome other close last text
@@ -214,63 +199,43 @@ pub ends_generated : {D : Type 0} (held : D → Option (List ℕ)) (faults : D �
     ((edges : EdgeList) → AreEdges edges → OpenToEdges (all_drive_bytes plan edges) edges) → HoldGenerated held faults plan recipe olds → NoneRose faults olds news →
     Ends faults olds news (WishComesTo wish (all_told held olds)) leaves output status → EndsAlone (LargeComesTo wish recipe) output status
 ends_generated held faults plan recipe wish olds news leaves output status opens holds kept ends =
-    let edges = holds.edges in
     record {
       end = ends.end;
       text = ends.text;
       cause = cause_undriven faults olds news (WishComesTo wish (all_told held olds)) (LargeComesTo wish recipe)
-          (comes_generated wish recipe (all_told held olds) (all_drive_bytes plan edges) edges holds.hold.told holds.made (opens edges holds.hold.are_edges))
+          (comes_generated held wish recipe olds (gives_generated held faults plan recipe olds opens holds))
           (λ number rose. never_first 0 faults number olds news holds.hold.unfailed kept rose) ends.end ends.text ends.cause;
       left = tt;
       written = ends.written;
     }
 
+-- what is known of the graph that the drives give is known of the generated graph
+known_generated : {D : Type 0} (held : D → Option (List ℕ)) (recipe : Recipe) (drives : List D) (P : Result Counted Refusal → Type 0) → GiveGenerated held recipe drives →
+    IfSome (all_told held drives) (λ helds. P (held_graph helds)) → P (generated_graph recipe)
+known_generated held recipe drives P gives known =
+    let Told : Option (List (List ℕ)) → Type 0 = λ told. IfSome told (λ helds. P (held_graph helds)) in
+    subst P gives.graph (subst Told gives.told known)
+
 -- the tally rose by the run on the drives
 pub tally_generated : {D : Type 0} (held : D → Option (List ℕ)) (faults : D → ℕ) (plan : Plan) (recipe : Recipe) (wish : Wish) (olds : List D) (tally : Tallied) →
     ((edges : EdgeList) → AreEdges edges → OpenToEdges (all_drive_bytes plan edges) edges) → HoldGenerated held faults plan recipe olds →
-    IfSome (all_told held olds) (λ helds. RoseByWish wish helds (opening_of helds) tally) → RoseByEdges wish (generated recipe) tally
+    IfSome (all_told held olds) (λ helds. RoseByWish wish (held_graph helds) tally) → RoseByWish wish (generated_graph recipe) tally
 tally_generated held faults plan recipe wish olds tally opens holds rose =
-    let edges = holds.edges in
-    let helds = all_drive_bytes plan edges in
-    let open_to = opens edges holds.hold.are_edges in
-    let Told : Option (List (List ℕ)) → Type 0 = λ told. IfSome told (λ helds. RoseByWish wish helds (opening_of helds) tally) in
-    let Opening : Result Opened Refusal → Type 0 = λ given. RoseByWish wish helds given tally in
-    let On : Graph → Type 0 = λ graph. RoseByRun (run_in wish graph) tally in
-    let By : Result EdgeList Refusal → Type 0 = λ says. RoseByEdges wish says tally in
-    let told : RoseByWish wish helds (opening_of helds) tally = subst Told holds.hold.told rose in
-    let on_drives : RoseByRun (run_in wish (graph_on open_to.opened helds)) tally = subst Opening open_to.opening told in
-    subst By (sym holds.made) (subst On open_to.graph on_drives)
+    known_generated held recipe olds (λ given. RoseByWish wish given tally) (gives_generated held faults plan recipe olds opens holds) rose
 
--- what the values mean of a run on drives that open to the edges
-means_in : (wish : Wish) (opened : Opened) (helds : List (List ℕ)) (edges : EdgeList) → graph_on opened helds ≡ graph_of_edges edges →
-    (pick : Pick) → MeansOn wish opened helds pick → EdgesMean wish edges pick
-means_in wish opened helds edges same (Pick.Bfs source) means =
-    let P : Graph → Type 0 = λ graph. (run_in wish graph).ending ≡ Settled → AreLeastValues length (rules_of wish.pick) graph source (run_in wish graph).states in
-    subst P same means
-means_in wish opened helds edges same (Pick.Sssp source) means =
-    let P : Graph → Type 0 = λ graph. (run_in wish graph).ending ≡ Settled → AreLeastValues weight (rules_of wish.pick) graph source (run_in wish graph).states in
-    subst P same means
-means_in wish opened helds edges same (Pick.Rank cut) means = tt
-
+-- what the values mean of a run on drives that hold the generated edges
 pub means_generated : {D : Type 0} (held : D → Option (List ℕ)) (faults : D → ℕ) (plan : Plan) (recipe : Recipe) (wish : Wish) (olds : List D) →
     ((edges : EdgeList) → AreEdges edges → OpenToEdges (all_drive_bytes plan edges) edges) → HoldGenerated held faults plan recipe olds →
-    IfSome (all_told held olds) (λ helds. MeansWish wish helds (opening_of helds)) → GeneratedMean wish (generated recipe)
+    IfSome (all_told held olds) (λ helds. MeansWish wish (held_graph helds)) → MeansWish wish (generated_graph recipe)
 means_generated held faults plan recipe wish olds opens holds means =
-    let edges = holds.edges in
-    let helds = all_drive_bytes plan edges in
-    let open_to = opens edges holds.hold.are_edges in
-    let Told : Option (List (List ℕ)) → Type 0 = λ told. IfSome told (λ helds. MeansWish wish helds (opening_of helds)) in
-    let Opening : Result Opened Refusal → Type 0 = λ given. MeansWish wish helds given in
-    let By : Result EdgeList Refusal → Type 0 = λ says. GeneratedMean wish says in
-    let told : MeansWish wish helds (opening_of helds) = subst Told holds.hold.told means in
-    subst By (sym holds.made) (means_in wish open_to.opened helds edges open_to.graph wish.pick (subst Opening open_to.opening told))
+    known_generated held recipe olds (MeansWish wish) (gives_generated held faults plan recipe olds opens holds) means
 
 -- why edges weren't generated
 pub cause_of_generating : (wish : Wish) (recipe : Recipe) (refusal : Refusal) → MadeRefused recipe.undirected (generated_text recipe.start recipe.nodes recipe.edges) refusal →
     IsCause {D = ℕ} (λ drive. drive) [] [] (LargeComesTo wish recipe) (Some refusal) (refusal_line refusal)
-cause_of_generating wish recipe Refusal.Memory why = record { outcome = large_outcome wish (generated recipe); is_one = refl; count = 0; text_is = refl }
+cause_of_generating wish recipe Refusal.Memory why = record { outcome = outcome_on wish (generated_graph recipe); is_one = refl; count = 0; text_is = refl }
 cause_of_generating wish recipe (Refusal.TooManyEdges line) why =
-    (tt, record { outcome = at_once (Refuses (Refusal.TooManyEdges line)); is_one = sym (ap (large_outcome wish) why); closes = refl; text_is = refl })
+    (tt, record { outcome = at_once (Refuses (Refusal.TooManyEdges line)); is_one = sym (ap (λ says. outcome_on wish (edges_graph says)) why); closes = refl; text_is = refl })
 cause_of_generating wish recipe refusal why = absurd why
 
 pub generating_not_output : (undirected : Bool) (text : List ℕ) (refusal : Refusal) → MadeRefused undirected text refusal → refusal ≢ Refusal.OutputFault

@@ -15,8 +15,8 @@ use Rattle.fg_outside.proofs.DriveLemmas.{RoseFirst-after}
 use Rattle.fg_report.specs.Refusals.{refusal_line}
 use Rattle.fg_top.specs.declared.jobs.Wish.{Wish}
 use Rattle.fg_top.specs.Ends.{IsCause, IsCutShort, IsOutcome}
-use Rattle.fg_top.specs.Outcome.{Close, Done, IsOwnSource, MayComeTo, Outcome, Refuses, WishComesTo, at_once, head_of, opened_outcome, outcome_of, rules_of, run_close, run_on, run_outcome, source_of, sourced_outcome}
-use Rattle.fg_top.specs.Running.{IsSourced, MayClose, RunComesTo, run_in}
+use Rattle.fg_top.specs.Outcome.{Close, Done, IsOwnSource, MayComeTo, Outcome, Refuses, WishComesTo, at_once, head_of, opened_graph, outcome_of, outcome_on, rules_of, run_close, run_in, run_on, run_outcome, source_of, where_vertex}
+use Rattle.fg_top.specs.Running.{IsSourced, MayClose, RunComesTo}
 use Rattle.fg_top.proofs.EndLemmas.{behind}
 
 le_holds : (a b : ℕ) → a ≤ b → nat_le a b ≡ true
@@ -30,13 +30,13 @@ comes_refused : (wish : Wish) (told : Option (List (List ℕ))) (refusal : Refus
     IfSome told (λ helds. opening_of helds ≡ Err refusal) → WishComesTo wish told (at_once (Refuses refusal))
 unfolding outcome_of
 comes_refused wish None refusal may opening = may
-comes_refused wish (Some helds) refusal may opening = sym (ap (opened_outcome wish helds) opening)
+comes_refused wish (Some helds) refusal may opening = sym (ap (λ given. outcome_on wish (opened_graph helds given)) opening)
 
 -- a source that is no vertex
-refuses_source : (wish : Wish) (opened : Opened) (helds : List (List ℕ)) (own : Option ℕ) (source : ℕ) → own ≡ Some source → opened.header.n ≤ source →
-    sourced_outcome wish opened helds own ≡ at_once (Refuses (Refusal.BadSource source opened.header.n))
-refuses_source wish opened helds own source is above =
-    let no_vertex : nat_le opened.header.n source ≡ true = le_holds opened.header.n source above in
+refuses_source : (outcome : Outcome) (own : Option ℕ) (source vertices : ℕ) → own ≡ Some source → vertices ≤ source →
+    where_vertex own vertices outcome ≡ at_once (Refuses (Refusal.BadSource source vertices))
+refuses_source outcome own source vertices is above =
+    let no_vertex : nat_le vertices source ≡ true = le_holds vertices source above in
     rw is (rw no_vertex refl)
 
 own_source : (own : Option ℕ) (source vertices : ℕ) → own ≡ Some source → vertices ≤ source → IsOwnSource own source vertices
@@ -49,23 +49,24 @@ comes_bad_source : (wish : Wish) (told : Option (List (List ℕ))) (opened : Ope
 unfolding outcome_of
 comes_bad_source wish None opened source opening is above = (own_source (source_of wish.pick) source opened.header.n is above, refl)
 comes_bad_source wish (Some helds) opened source opening is above =
-    sym (ap (opened_outcome wish helds) opening ∙ refuses_source wish opened helds (source_of wish.pick) source is above)
+    sym (ap (λ given. outcome_on wish (opened_graph helds given)) opening ∙ refuses_source (run_outcome wish (head_of wish.pick opened.header) (run_on wish opened helds)) (source_of wish.pick) source opened.header.n is above)
 
 -- a source that is a vertex
-runs_on : (wish : Wish) (opened : Opened) (helds : List (List ℕ)) (own : Option ℕ) → IfSome own (λ source. source < opened.header.n) →
-    sourced_outcome wish opened helds own ≡ run_outcome wish opened.header (run_on wish opened helds)
-runs_on wish opened helds None below = refl
-runs_on wish opened helds (Some source) below =
-    let vertex : nat_le opened.header.n source ≡ false = le_fails opened.header.n source below in
+keeps_source : (outcome : Outcome) (own : Option ℕ) (vertices : ℕ) → IfSome own (λ source. source < vertices) → where_vertex own vertices outcome ≡ outcome
+keeps_source outcome None vertices below = refl
+keeps_source outcome (Some source) vertices below =
+    let vertex : nat_le vertices source ≡ false = le_fails vertices source below in
     rw vertex refl
 
 -- what the wish comes to on drives that open and have its source
 pub runs_so : (wish : Wish) (told : Option (List (List ℕ))) (opened : Opened) →
     IfSome told (λ helds. opening_of helds ≡ Ok opened) → IsSourced wish.pick opened.header.n →
-    IfSome told (λ helds. outcome_of wish helds ≡ run_outcome wish opened.header (run_on wish opened helds))
+    IfSome told (λ helds. outcome_of wish helds ≡ run_outcome wish (head_of wish.pick opened.header) (run_on wish opened helds))
 unfolding outcome_of
 runs_so wish None opened opening sourced = tt
-runs_so wish (Some helds) opened opening sourced = ap (opened_outcome wish helds) opening ∙ runs_on wish opened helds (source_of wish.pick) sourced
+runs_so wish (Some helds) opened opening sourced =
+    ap (λ given. outcome_on wish (opened_graph helds given)) opening
+    ∙ keeps_source (run_outcome wish (head_of wish.pick opened.header) (run_on wish opened helds)) (source_of wish.pick) opened.header.n sourced
 
 -- how a run may close behind its head it may close with it
 may_behind : (wish : Wish) (header : Header) (lines : List (List ℕ)) (close : Close) → MayClose close → MayComeTo wish (head_of wish.pick header ∷ lines) close
@@ -75,7 +76,7 @@ may_behind wish header lines (Refuses refusal) may = absurd may
 
 -- what a run comes to behind its head is what the wish comes to
 pub comes_behind_head : (wish : Wish) (told : Option (List (List ℕ))) (header : Header) (run_of : List (List ℕ) → Run) →
-    IfSome told (λ helds. outcome_of wish helds ≡ run_outcome wish header (run_of helds)) →
+    IfSome told (λ helds. outcome_of wish helds ≡ run_outcome wish (head_of wish.pick header) (run_of helds)) →
     (outcome : Outcome) → RunComesTo (rules_of wish.pick) wish told run_of outcome → WishComesTo wish told (behind (head_of wish.pick header ∷ []) outcome)
 comes_behind_head wish None header run_of so outcome comes = may_behind wish header outcome.lines outcome.close comes
 comes_behind_head wish (Some helds) header run_of so outcome comes = ap (behind (head_of wish.pick header ∷ [])) comes ∙ sym so

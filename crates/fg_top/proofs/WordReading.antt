@@ -6,8 +6,9 @@ use Rattle.std.specs.List.{list_all, list_any}
 use Rattle.std.proofs.lemmas.Bool.{eqb-true}
 use Rattle.fg_base.specs.declared.refusal.Opt.{Opt}
 use Rattle.fg_base.specs.declared.refusal.Opt.TheVariants.{Program, Source, Max, Cut, Each, Quiet, Unit as UnitPages, Number, Undirected, Input, Start, Nodes, Edges, Drives, Drive}
+use Rattle.fg_report.specs.Refusals.{option_name}
 use Rattle.fg_top.specs.declared.words.command_line.CommandLine.{CommandLine}
-use Rattle.fg_top.specs.CommandLine.{Given, is_given, is_same, is_word, name_of, is_there, said, found, value_of, line_of, with_option, options, option_of, is_flag, program_of, number_within}
+use Rattle.fg_top.specs.CommandLine.{Given, is_given, is_same, is_word, is_there, said, found, value_of, line_of, with_option, options, option_of, is_flag, program_of, number_within}
 use Rattle.fg_top.specs.Words.{Parts, parts_from, led_by, behind_option, is_option_first, is_each_once, is_drive, proper, line_read, with_drives}
 
 -- what a line says after these options and drives; none where an option is there already
@@ -137,7 +138,7 @@ more_value option (other ∷ given) one =
 
 value_of_same : (option other : Opt) (given : List Given) → is_same option other ≡ true → value_of option given ≡ value_of other given
 value_of_same option other given same =
-    ap (λ name. option_map (λ (one : Given). one.value) (find (λ (one : Given). is_word (name_of one.option) name) given)) (same_text (name_of option) (name_of other) same)
+    ap (λ name. option_map (λ (one : Given). one.value) (find (λ (one : Given). is_word (option_name one.option) name) given)) (same_text (option_name option) (option_name other) same)
 
 or_nothing : (value : Option (List ℕ)) → option_or value None ≡ value
 or_nothing None = refl
@@ -329,7 +330,7 @@ built_found p (option ∷ list) known =
     built_chosen (p option) option (find p list) (left (is_built option) (list_all is_built list) known) (built_found p list (right (is_built option) (list_all is_built list) known))
 
 built_option : (word : List ℕ) → BuiltOption (option_of word)
-built_option word = built_found (λ option. is_word word (codes "--" ++ name_of option)) options refl
+built_option word = built_found (λ option. is_word word (codes "--" ++ option_name option)) options refl
 
 built_from : (waiting : Option Opt) (words : List (List ℕ)) → BuiltOption waiting → BuiltParts (parts_from waiting words)
 built_from None [] known = refl

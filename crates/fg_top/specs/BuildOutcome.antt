@@ -1,5 +1,5 @@
 -- What building an image from a text comes to where memory suffices and no drive and no output fails.
-use Rattle.std.specs.Prelude.{◌≡◌, ℕ, ◌/◌, Bool, true, false, Option, None, Some, IfSome, Result, Ok, Err, List, [], ◌++◌, ◌⊎◌, codes, decimal, length}
+use Rattle.std.specs.Prelude.{◌≡◌, ◌<◌, ℕ, ◌/◌, Bool, true, false, Option, None, Some, IfSome, Result, Ok, Err, List, [], ◌++◌, ◌⊎◌, codes, decimal, length}
 use Rattle.fg_base.specs.Faults.{Rose}
 use Rattle.fg_base.specs.declared.refusal.Refusal.{Refusal}
 use Rattle.fg_build.specs.Building.{AreEmpty, IsFirstFull}
@@ -67,11 +67,11 @@ ClosesByInput drives undirected input close =
     (Rose input.old_faults input.new_faults × (close ≡ Refuses Refusal.InputFault))
     ⊎ ((input.new_faults ≡ input.old_faults) × ClosesByText drives undirected input.left close)
 
--- by its drives, as far as they tell what they hold: refused for the first that holds a whole page; where none does, the
--- input decides
+-- by its drives, as far as they tell what they hold: refused for the first that holds a whole page, in any case for one of them;
+-- where none does, the input decides
 abbrev pub ClosesByDrives : ℕ → Bool → Option (List (List ℕ)) → Input → Close → Type 0
 ClosesByDrives drives undirected told input close =
-    ((drive : ℕ) × IfSome told (IsFirstFull drive) × (close ≡ Refuses (Refusal.NotEmpty drive)))
+    ((drive : ℕ) × (drive < drives) × IfSome told (IsFirstFull drive) × (close ≡ Refuses (Refusal.NotEmpty drive)))
     ⊎ (IfSome told AreEmpty × ClosesByInput drives undirected input close)
 
 -- a build over so many drives comes to this outcome, by what the drives tell of their bytes and by its input: it writes nothing but how it

@@ -7,7 +7,7 @@ use Rattle.fg_build.specs.Layouts.{Plan}
 use Rattle.fg_model.specs.Edges.{AreEdges, EdgeList}
 use Rattle.fg_outside.specs.Drives.{EachSame, NoneRose, RoomyKept, RoseFirst, all_told}
 use Rattle.fg_text.specs.Text.{read_text}
-use Rattle.fg_top.specs.BuildOutcome.{Input}
+use Rattle.fg_top.specs.BuildOutcome.{Input, built_line}
 
 -- these are the edges of the text that was left in the source, where it tells that
 pub record AreOfText (undirected : Bool) (left : Option (List ℕ)) (edges : EdgeList) : Type 0 where
@@ -28,6 +28,11 @@ pub record AreBuilt {D : Type 0} (held : D → Option (List ℕ)) (faults : D �
   pub holds : HoldImage held plan edges olds news
   pub kept : NoneRose faults olds news
 
+-- the same, and the line is that of these edges
+pub record AreBuiltAsWritten {D : Type 0} (held : D → Option (List ℕ)) (faults : D → ℕ) (plan : Plan) (undirected : Bool) (input : Input) (olds news : List D) (line : List ℕ) : Type 0 where
+  pub built : AreBuilt held faults plan undirected input olds news
+  pub is_line : line ≡ built_line plan.drives built.edges
+
 -- this drive is the first that failed, and each holds a first part of that
 pub record ArePartlyBuilt {D : Type 0} (held : D → Option (List ℕ)) (faults : D → ℕ) (failed : ℕ) (plan : Plan) (undirected : Bool) (input : Input) (olds news : List D) : Type 0 where
   pub edges : EdgeList
@@ -42,13 +47,14 @@ AreLeft held faults plan undirected input olds news =
     ⊎ (AreBuilt held faults plan undirected input olds news
     ⊎ ((failed : ℕ) × ArePartlyBuilt held faults failed plan undirected input olds news))
 
--- what they hold by what ended the work: the image where nothing did; what they held, or a first part of it, where a drive
--- failed, before the first append or from there on; and what they held where the build was refused otherwise
-abbrev pub BuildLeaves : {D : Type 0} → (D → Option (List ℕ)) → (D → ℕ) → Plan → Bool → Input → List D → List D → Option Refusal → Type 0
-BuildLeaves held faults plan undirected input olds news None = AreBuilt held faults plan undirected input olds news
-BuildLeaves held faults plan undirected input olds news (Some (DriveFault drive)) =
+-- what they hold by what ended the work, and its text: where nothing did, the image of the edges whose line that is; what they
+-- held, or a first part of the image, where a drive failed, before the first append or from there on; and what they held where
+-- the build was refused otherwise
+abbrev pub BuildLeaves : {D : Type 0} → (D → Option (List ℕ)) → (D → ℕ) → Plan → Bool → Input → List D → List D → Option Refusal → List ℕ → Type 0
+BuildLeaves held faults plan undirected input olds news None text = AreBuiltAsWritten held faults plan undirected input olds news text
+BuildLeaves held faults plan undirected input olds news (Some (DriveFault drive)) text =
     EachSame held olds news ⊎ ArePartlyBuilt held faults drive plan undirected input olds news
-BuildLeaves held faults plan undirected input olds news (Some refusal) = EachSame held olds news
+BuildLeaves held faults plan undirected input olds news (Some refusal) text = EachSame held olds news
 
 -- what a drive that tells its room surely does, whatever the others do: it doesn't fail where it has room for its part of the
 -- image, or where there is no image

@@ -1,5 +1,5 @@
--- What the words behind COMMAND say of each option: the options' names and ranges, which commands and programs take them
--- or need them, and what is wrong.
+-- What the words behind COMMAND say of each option: the options' ranges, which commands and programs take them or need
+-- them, and what is wrong.
 use Rattle.std.specs.Prelude.{ℕ, Bool, true, false, Option, Some, None, List, [], ◌∷◌, ◌++◌, ◌&&◌, ◌||◌, not, nat_le, nat_lt, nat_eq, is_some, length, if◌then◌else◌, codes, find, option_map}
 use Rattle.std.specs.Option.{option_or}
 use Rattle.std.specs.Cmp.Lexicographic.{pointwise}
@@ -10,6 +10,7 @@ use Rattle.fg_base.specs.declared.refusal.Opt.{Opt}
 use Rattle.fg_base.specs.declared.refusal.Opt.TheVariants.{Program, Source, Max, Cut, Each, Quiet, Unit as UnitPages, Number, Undirected, Input, Start, Nodes, Edges, Drives, Drive}
 use Rattle.fg_base.specs.declared.refusal.WordFault.{WordFault}
 use Rattle.fg_base.specs.declared.refusal.WordFault.TheVariants.{Extra, Missing, Range}
+use Rattle.fg_report.specs.Refusals.{option_name}
 use Rattle.fg_top.specs.declared.words.command.Command.{Command}
 use Rattle.fg_top.specs.declared.words.command.Command.TheVariants.{Build, Run, Ref, Gen, Large}
 use Rattle.fg_top.specs.declared.words.command.ProgramName.{ProgramName}
@@ -22,27 +23,9 @@ use Rattle.fg_top.specs.declared.words.said.Said.TheVariants.{Nothing, OutOfRang
 abbrev pub is_word : List ℕ → List ℕ → Bool
 is_word word text = pointwise nat_eq word text
 
--- an option's name
-abbrev pub name_of : Opt → List ℕ
-name_of Program = codes "program"
-name_of Source = codes "source"
-name_of Max = codes "max"
-name_of Cut = codes "cut"
-name_of Each = codes "each"
-name_of Quiet = codes "quiet"
-name_of UnitPages = codes "unit"
-name_of Number = codes "number"
-name_of Undirected = codes "undirected"
-name_of Input = codes "input"
-name_of Start = codes "start"
-name_of Nodes = codes "nodes"
-name_of Edges = codes "edges"
-name_of Drives = codes "drives"
-name_of Drive = codes "drive"
-
 -- two options are the same, which their names tell
 abbrev pub is_same : Opt → Opt → Bool
-is_same option other = is_word (name_of option) (name_of other)
+is_same option other = is_word (option_name option) (option_name other)
 
 -- the options that are built
 abbrev pub options : List Opt
@@ -55,7 +38,7 @@ table = options ++ Drive ∷ []
 
 -- the option that a word spells: `--` and the option's name
 abbrev pub option_of : List ℕ → Option Opt
-option_of word = find (λ option. is_word word (codes "--" ++ name_of option)) options
+option_of word = find (λ option. is_word word (codes "--" ++ option_name option)) options
 
 -- the option has no value: it is on where it is there
 abbrev pub is_flag : Opt → Bool

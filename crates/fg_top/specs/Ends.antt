@@ -66,14 +66,18 @@ IsWritten output end text status =
     ((output.new_faults ≡ output.old_faults) × (output.new_text ≡ grown output.old_text text) × (output.keeps_back ≡ false) × (status ≡ status_at end))
     ⊎ (Rose output.old_faults output.new_faults × GrewByFirst text output.old_text output.new_text × (status ≡ 4))
 
--- a job's end: what ended the work has its cause, the job leaves what it leaves by that end, and the text of that end was
+-- a job's end: what ended the work has its cause, the job leaves what it leaves by that end and its text, and this text was
 -- written, or a put or the flush failed
-pub record Ends {D : Type 0} (faults : D → ℕ) (olds news : List D) (comes : Outcome → Type 0) (leaves : Option Refusal → Type 0) (output : Output) (status : ℕ) : Type 0 where
+pub record EndsLeaving {D : Type 0} (faults : D → ℕ) (olds news : List D) (comes : Outcome → Type 0) (leaves : Option Refusal → List ℕ → Type 0) (output : Output) (status : ℕ) : Type 0 where
   pub end : Option Refusal
   pub text : List ℕ
   pub cause : IsCause faults olds news comes end text
-  pub left : leaves end
+  pub left : leaves end text
   pub written : IsWritten output end text status
+
+-- the same where what is left doesn't go with the text
+abbrev pub Ends : {D : Type 0} → (D → ℕ) → List D → List D → (Outcome → Type 0) → (Option Refusal → Type 0) → Output → ℕ → Type 0
+Ends faults olds news comes leaves output status = EndsLeaving faults olds news comes (λ end text. leaves end) output status
 
 -- the same of work that has no drives
 abbrev pub EndsAlone : (Outcome → Type 0) → Output → ℕ → Type 0

@@ -22,15 +22,15 @@ LeavesBy held faults (Ok (Ref pick max each quiet)) input olds news = EachSame h
 LeavesBy held faults (Ok (Gen start nodes edges)) input olds news = EachSame held olds news
 LeavesBy held faults (Ok (Large pick max unit undirected start nodes edges drives)) input olds news = EachSame held olds news
 
--- the same by what ended the work
-abbrev pub LeavesAt : {D : Type 0} → (D → Option (List ℕ)) → (D → ℕ) → Result Job WordFault → Input → List D → List D → Option Refusal → Type 0
-LeavesAt held faults (Err fault) input olds news end = LeavesHeld held olds news end
-LeavesAt held faults (Ok (Build unit number undirected)) input olds news end =
-    BuildLeaves held faults (plan_of (length olds) unit number) undirected input olds news end
-LeavesAt held faults (Ok (Run pick max each quiet)) input olds news end = LeavesHeld held olds news end
-LeavesAt held faults (Ok (Ref pick max each quiet)) input olds news end = LeavesHeld held olds news end
-LeavesAt held faults (Ok (Gen start nodes edges)) input olds news end = LeavesHeld held olds news end
-LeavesAt held faults (Ok (Large pick max unit undirected start nodes edges drives)) input olds news end = LeavesHeld held olds news end
+-- the same by what ended the work, and its text
+abbrev pub LeavesAt : {D : Type 0} → (D → Option (List ℕ)) → (D → ℕ) → Result Job WordFault → Input → List D → List D → Option Refusal → List ℕ → Type 0
+LeavesAt held faults (Err fault) input olds news end text = LeavesHeld held olds news end
+LeavesAt held faults (Ok (Build unit number undirected)) input olds news end text =
+    BuildLeaves held faults (plan_of (length olds) unit number) undirected input olds news end text
+LeavesAt held faults (Ok (Run pick max each quiet)) input olds news end text = LeavesHeld held olds news end
+LeavesAt held faults (Ok (Ref pick max each quiet)) input olds news end text = LeavesHeld held olds news end
+LeavesAt held faults (Ok (Gen start nodes edges)) input olds news end text = LeavesHeld held olds news end
+LeavesAt held faults (Ok (Large pick max unit undirected start nodes edges drives)) input olds news end text = LeavesHeld held olds news end
 
 -- what they hold where the job is done
 abbrev pub DoneBy : {D : Type 0} → (D → Option (List ℕ)) → (D → ℕ) → Result Job WordFault → Input → List D → List D → Type 0
@@ -42,7 +42,7 @@ DoneBy held faults (Ok (Ref pick max each quiet)) input olds news = EachSame hel
 DoneBy held faults (Ok (Gen start nodes edges)) input olds news = EachSame held olds news
 DoneBy held faults (Ok (Large pick max unit undirected start nodes edges drives)) input olds news = EachSame held olds news
 
--- drives that tell their room don't fail; in a build they don't where each has room for its part
+-- drives that tell their room don't fail; in a build each that has room for its part doesn't
 abbrev pub KeepsBy : {D : Type 0} → (D → Option ℕ) → (D → ℕ) → Result Job WordFault → Option (List ℕ) → List D → List D → Type 0
 KeepsBy room faults (Err fault) left olds news = RoomyKept room faults olds news
 KeepsBy room faults (Ok (Build unit number undirected)) left olds news =

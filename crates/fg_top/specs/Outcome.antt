@@ -7,6 +7,7 @@ use Rattle.fg_build.specs.declared.opened.Opened.{Opened}
 use Rattle.fg_build.specs.Answers.{MatchOpening}
 use Rattle.fg_build.specs.Opening.{graph_on, opening_of}
 use Rattle.fg_image.specs.declared.header.Header.{Header}
+use Rattle.fg_model.specs.declared.graph.Graph.{Graph}
 use Rattle.fg_model.specs.Program.{Rules}
 use Rattle.fg_model.specs.Run.{Ending, Finished, Refused, Run, Settled, Stopped, run}
 use Rattle.fg_model.specs.Watch.{line_of}
@@ -40,9 +41,29 @@ source_of (Pick.Rank cut) = None
 abbrev pub wish_for : Pick → ℕ → Bool → Bool → Wish
 wish_for pick max each quiet = record { pick = pick; max = max; each = each; quiet = quiet }
 
--- the run that is wished for on drives that hold these bytes
+-- the run that is wished for on a graph
+abbrev pub run_in : Wish → Graph → Run
+run_in wish graph = run (rules_of wish.pick) graph wish.max
+
+-- the same on drives that hold these bytes and open so
 abbrev pub run_on : Wish → Opened → List (List ℕ) → Run
-run_on wish opened helds = run (rules_of wish.pick) (graph_on opened helds) wish.max
+run_on wish opened helds = run_in wish (graph_on opened helds)
+
+-- a graph, and what the head of a run on it counts: the vertices, and the entries in both directions
+pub record Counted : Type 0 where
+  pub vertices : ℕ
+  pub outs : ℕ
+  pub ins : ℕ
+  pub graph : Graph
+
+-- the graph on drives that hold these bytes and open so, with the counts of the header; or what refuses the drives
+abbrev pub opened_graph : List (List ℕ) → Result Opened Refusal → Result Counted Refusal
+opened_graph helds (Err refusal) = Err refusal
+opened_graph helds (Ok opened) =
+    Ok (record { vertices = opened.header.n; outs = opened.header.out_entries; ins = opened.header.in_entries; graph = graph_on opened helds })
+
+abbrev pub held_graph : List (List ℕ) → Result Counted Refusal
+held_graph helds = opened_graph helds (opening_of helds)
 
 -- how a job closes: it is done, and this is the last of its text; or it is refused for what its words ask or its
 -- drives hold
@@ -78,28 +99,28 @@ run_close quiet show (Refused begun bad) iterations states = Refuses (Refusal.Ba
 abbrev pub head_of : Pick → Header → List ℕ
 head_of pick header = head_line (name_of pick) header.n header.out_entries header.in_entries
 
--- a run's outcome: the head, what is written of each finished iteration, and how it closes
-abbrev pub run_outcome : Wish → Header → Run → Outcome
-run_outcome wish header run = record {
-  lines = head_of wish.pick header ∷ map (text_of wish.each (rules_of wish.pick).show) run.finished;
+-- a run's outcome: this head, what is written of each finished iteration, and how it closes
+abbrev pub run_outcome : Wish → List ℕ → Run → Outcome
+run_outcome wish head run = record {
+  lines = head ∷ map (text_of wish.each (rules_of wish.pick).show) run.finished;
   close = run_close wish.quiet (rules_of wish.pick).show run.ending run.iterations run.states;
 }
 
--- the outcome of a run on what was opened, where its source is a vertex
-abbrev pub sourced_outcome : Wish → Opened → List (List ℕ) → Option ℕ → Outcome
-sourced_outcome wish opened helds None = run_outcome wish opened.header (run_on wish opened helds)
-sourced_outcome wish opened helds (Some source) =
-    if nat_le opened.header.n source
-    then at_once (Refuses (Refusal.BadSource source opened.header.n))
-    else run_outcome wish opened.header (run_on wish opened helds)
+-- the outcome where the source, if there is one, is one of so many vertices; else the source is refused
+abbrev pub where_vertex : Option ℕ → ℕ → Outcome → Outcome
+where_vertex None vertices outcome = outcome
+where_vertex (Some source) vertices outcome =
+    if nat_le vertices source then at_once (Refuses (Refusal.BadSource source vertices)) else outcome
 
--- the outcome of a run on drives that hold these bytes and open so
-abbrev pub opened_outcome : Wish → List (List ℕ) → Result Opened Refusal → Outcome
-opened_outcome wish helds (Err refusal) = at_once (Refuses refusal)
-opened_outcome wish helds (Ok opened) = sourced_outcome wish opened helds (source_of wish.pick)
+-- the outcome of the run that is wished for on a graph with its counts, or of what refuses to give one
+abbrev pub outcome_on : Wish → Result Counted Refusal → Outcome
+outcome_on wish (Err refusal) = at_once (Refuses refusal)
+outcome_on wish (Ok counted) =
+    where_vertex (source_of wish.pick) counted.vertices
+    (run_outcome wish (head_line (name_of wish.pick) counted.vertices counted.outs counted.ins) (run_in wish counted.graph))
 
 unfoldable pub outcome_of : Wish → List (List ℕ) → Outcome
-outcome_of wish helds = opened_outcome wish helds (opening_of helds)
+outcome_of wish helds = outcome_on wish (held_graph helds)
 
 -- a source that some number of vertices refuses
 abbrev pub IsOwnSource : Option ℕ → ℕ → ℕ → Type 0

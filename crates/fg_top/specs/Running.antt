@@ -3,18 +3,17 @@ use Rattle.std.specs.Prelude.{◌≡◌, ◌<◌, ℕ, Bool, Option, None, Some,
 use Rattle.fg_base.specs.declared.plain.Value.{Value}
 use Rattle.fg_base.specs.declared.plain.VState.{VState}
 use Rattle.fg_base.specs.declared.refusal.Refusal.{Refusal}
-use Rattle.fg_model.specs.declared.graph.Graph.{Graph}
 use Rattle.fg_model.specs.declared.run.End.{End}
 use Rattle.fg_model.specs.declared.run.RunFault.{RunFault}
 use Rattle.fg_model.specs.Program.{Rules}
-use Rattle.fg_model.specs.Run.{Run, run}
+use Rattle.fg_model.specs.Run.{Run}
 use Rattle.fg_report.specs.Lines.{end_line}
 use Rattle.fg_report.specs.Refusals.{refusal_line}
 use Rattle.fg_top.specs.declared.jobs.JobFault.{JobFault}
 use Rattle.fg_top.specs.declared.jobs.Pick.{Pick}
 use Rattle.fg_top.specs.declared.jobs.Wish.{Wish}
 use Rattle.fg_top.specs.Ends.{IsWritten, Output}
-use Rattle.fg_top.specs.Outcome.{Close, Done, Outcome, Refuses, rules_of, run_close, source_of, text_of, values_or_sum}
+use Rattle.fg_top.specs.Outcome.{Close, Done, Outcome, Refuses, run_close, source_of, text_of, values_or_sum}
 
 -- the refusal of words that give no job
 abbrev pub words_refusal : JobFault → Refusal
@@ -24,10 +23,6 @@ words_refusal (JobFault.Words fault) = Refusal.Words fault
 -- the source of a program that has one is a vertex
 abbrev pub IsSourced : Pick → ℕ → Type 0
 IsSourced pick vertices = IfSome (source_of pick) (λ source. source < vertices)
-
--- the run that is wished for over this graph
-abbrev pub run_in : Wish → Graph → Run
-run_in wish graph = run (rules_of wish.pick) graph wish.max
 
 -- what a run of these rules comes to behind its head
 abbrev pub behind_head : Rules → Wish → Run → Outcome

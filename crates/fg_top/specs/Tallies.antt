@@ -2,14 +2,11 @@
 use Rattle.std.specs.Prelude.{◌≡◌, ℕ, ◌+◌, true, false, Result, Ok, Err, List}
 use Rattle.fg_base.specs.declared.refusal.Refusal.{Refusal}
 use Rattle.fg_base.specs.declared.refusal.WordFault.{WordFault}
-use Rattle.fg_build.specs.declared.opened.Opened.{Opened}
-use Rattle.fg_build.specs.Opening.{opening_of}
-use Rattle.fg_model.specs.Edges.{EdgeList}
 use Rattle.fg_model.specs.Run.{Run, entries_of, runs_of}
 use Rattle.fg_top.specs.declared.jobs.Job.{Job}
 use Rattle.fg_top.specs.declared.jobs.Wish.{Wish}
-use Rattle.fg_top.specs.LargeOutcome.{generated, recipe_for, run_on_edges}
-use Rattle.fg_top.specs.Outcome.{run_on, wish_for}
+use Rattle.fg_top.specs.LargeOutcome.{generated_graph, recipe_for}
+use Rattle.fg_top.specs.Outcome.{Counted, held_graph, run_in, wish_for}
 use Rattle.fg_top.specs.Words.{job_of}
 
 -- the tally's two numbers before and after a job
@@ -33,25 +30,20 @@ pub record RoseByRun (run : Run) (tally : Tallied) : Type 0 where
   pub runs : tally.new_runs ≡ tally.old_runs + runs_of run.finished
   pub entries : tally.new_entries ≡ tally.old_entries + entries_of run.finished
 
--- they rose by the wished run on drives that hold these bytes and open so
-abbrev pub RoseByWish : Wish → List (List ℕ) → Result Opened Refusal → Tallied → Type 0
-RoseByWish wish helds (Err refusal) tally = ⊥
-RoseByWish wish helds (Ok opened) tally = RoseByRun (run_on wish opened helds) tally
-
--- they rose by the wished run on the edges that a generated text says
-abbrev pub RoseByEdges : Wish → Result EdgeList Refusal → Tallied → Type 0
-RoseByEdges wish (Err refusal) tally = ⊥
-RoseByEdges wish (Ok edges) tally = RoseByRun (run_on_edges wish edges) tally
+-- they rose by the run that is wished for on a graph with its counts; where there is none, no run is done
+abbrev pub RoseByWish : Wish → Result Counted Refusal → Tallied → Type 0
+RoseByWish wish (Err refusal) tally = ⊥
+RoseByWish wish (Ok counted) tally = RoseByRun (run_in wish counted.graph) tally
 
 -- what a job that is done did to the tally: a run over drives raised it, any other job left it
 abbrev pub IsTalliedBy : Result Job WordFault → List (List ℕ) → Tallied → Type 0
 IsTalliedBy (Err fault) helds tally = ⊥
 IsTalliedBy (Ok (Job.Build unit number undirected)) helds tally = Stood tally
-IsTalliedBy (Ok (Job.Run pick max each quiet)) helds tally = RoseByWish (wish_for pick max each quiet) helds (opening_of helds) tally
+IsTalliedBy (Ok (Job.Run pick max each quiet)) helds tally = RoseByWish (wish_for pick max each quiet) (held_graph helds) tally
 IsTalliedBy (Ok (Job.Ref pick max each quiet)) helds tally = Stood tally
 IsTalliedBy (Ok (Job.Gen start nodes edges)) helds tally = Stood tally
 IsTalliedBy (Ok (Job.Large pick max unit undirected start nodes edges drives)) helds tally =
-    RoseByEdges (wish_for pick max false true) (generated (recipe_for start nodes edges undirected)) tally
+    RoseByWish (wish_for pick max false true) (generated_graph (recipe_for start nodes edges undirected)) tally
 
 abbrev pub IsTallied : List (List ℕ) → List (List ℕ) → Tallied → Type 0
 IsTallied words helds tally = IsTalliedBy (job_of words) helds tally

@@ -6,10 +6,10 @@ ghost use Rattle.fg_build.specs.Layouts.{plan_of};
 ghost use Rattle.fg_text.specs.Generator.{generated_text};
 ghost use Rattle.fg_text.specs.Made.{MadeRefused};
 ghost use Rattle.fg_top.specs.Ends.{EndsAlone, output_between};
-ghost use Rattle.fg_top.specs.LargeOutcome.{LargeComesTo, generated};
+ghost use Rattle.fg_top.specs.LargeOutcome.{LargeComesTo, generated_graph};
 ghost use Rattle.fg_top.specs.MadeDrives.{AreEmptyFor, HoldGenerated};
-ghost use Rattle.fg_top.specs.Meaning.{GeneratedMean};
-ghost use Rattle.fg_top.specs.Tallies.{RoseByEdges, tallied};
+ghost use Rattle.fg_top.specs.Meaning.{MeansWish};
+ghost use Rattle.fg_top.specs.Tallies.{RoseByWish, tallied};
 
 use crate::jobs::{Recipe, Wish};
 use crate::report::refuse;
@@ -108,8 +108,8 @@ pub fn large_job<K: Sink, T: Tally>(
     requires room_of_entries { T.entries tally.old ≤ 2 ^ 62 }
     ensures ends { EndsAlone (LargeComesTo wish recipe)
         (output_between (K.faults out.old) (K.faults out.new) (K.written out.old) (K.written out.new) (K.keeps_back out.new)) result }
-    ensures means { result ≡ 0 → GeneratedMean wish (generated recipe) }
-    ensures tally { result ≡ 0 → RoseByEdges wish (generated recipe) (tallied (T.runs tally.old) (T.runs tally.new) (T.entries tally.old) (T.entries tally.new)) }
+    ensures means { result ≡ 0 → MeansWish wish (generated_graph recipe) }
+    ensures tally { result ≡ 0 → RoseByWish wish (generated_graph recipe) (tallied (T.runs tally.old) (T.runs tally.new) (T.entries tally.old) (T.entries tally.new)) }
 {
     let mut drives = match make_drives(alloc, recipe, unit, count) {
         Ok(drives) => drives,

@@ -10,7 +10,7 @@
 ghost use Rattle.std.specs.Prelude.{◌≡◌, ◌≢◌, ◌≤◌, ◌^◌, IfSome, length, map, string_bytes};
 ghost use Rattle.fg_outside.specs.Drives.{EachSame, all_told};
 ghost use Rattle.fg_top.specs.BuildOutcome.{input_over};
-ghost use Rattle.fg_top.specs.Ends.{Ends, output_between};
+ghost use Rattle.fg_top.specs.Ends.{EndsLeaving, output_between};
 ghost use Rattle.fg_top.specs.GenOutcome.{IsGenerated};
 ghost use Rattle.fg_top.specs.JobLeaves.{CountsInput, DoneBy, EndsInput, KeepsBy, LeavesAt, LeavesBy, TakesBy};
 ghost use Rattle.fg_top.specs.JobOutcome.{ComesTo};
@@ -74,7 +74,7 @@ pub fn flash<R: Wait + Threads + Sync, S: Source, D: Drive + Send, K: Sink, T: T
     requires room_of_runs { T.runs tally.old ≤ 2 ^ 62 }
     requires room_of_entries { T.entries tally.old ≤ 2 ^ 62 }
     // The status, its cause, what it leaves on the drives, and the text that was written.
-    ensures ends { Ends D.faults drives.old.items drives.new.items
+    ensures ends { EndsLeaving D.faults drives.old.items drives.new.items
         (ComesTo (map string_bytes words.now.items) (length drives.old.items) (all_told D.held drives.old.items) (input_over (S.left input.old) (S.faults input.old) (S.faults input.new)))
         (LeavesAt D.held D.faults (job_of (map string_bytes words.now.items)) (input_over (S.left input.old) (S.faults input.old) (S.faults input.new)) drives.old.items drives.new.items)
         (output_between (K.faults out.old) (K.faults out.new) (K.written out.old) (K.written out.new) (K.keeps_back out.new)) result }
@@ -91,8 +91,9 @@ pub fn flash<R: Wait + Threads + Sync, S: Source, D: Drive + Send, K: Sink, T: T
     ensures tally_stands { Stands (map string_bytes words.now.items) (tallied (T.runs tally.old) (T.runs tally.new) (T.entries tally.old) (T.entries tally.new)) }
     // Where the job is done, what its values mean.
     ensures meaning { result ≡ 0 → IfSome (all_told D.held drives.old.items) (λ helds. Means (map string_bytes words.now.items) helds) }
-    // What was taken of the input, and whether it failed.
+    // What was taken of the input, which is nothing where the drives were refused for what they hold, and whether it failed.
     ensures input { TakesBy (job_of (map string_bytes words.now.items)) (S.left input.old) (S.left input.new) }
+    ensures unread { result ≡ 7 → S.left input.new ≡ S.left input.old }
     ensures input_end { result ≡ 0 → EndsInput (job_of (map string_bytes words.now.items)) (S.left input.new) }
     ensures input_faults { CountsInput (job_of (map string_bytes words.now.items)) (S.faults input.old) (S.faults input.new) result }
     ensures input_later { S.faults input.old ≤ S.faults input.new }

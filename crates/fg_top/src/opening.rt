@@ -10,7 +10,7 @@ ghost use Rattle.fg_outside.specs.Drives.{EachSame, LogsGrew, LogsGrewByFirst, N
 ghost use Rattle.fg_report.specs.Refusals.{refusal_line};
 ghost use Rattle.fg_top.specs.Ends.{IsCause};
 ghost use Rattle.fg_top.specs.Meaning.{MeansWish};
-ghost use Rattle.fg_top.specs.Outcome.{WishComesTo, source_of};
+ghost use Rattle.fg_top.specs.Outcome.{WishComesTo, held_graph, source_of};
 ghost use Rattle.fg_top.specs.Running.{IsSourced};
 
 use crate::jobs::{Pick, Wish};
@@ -58,7 +58,7 @@ pub fn open_sourced<D: Drive>(
     ensures kept { OnOk result (NoneRose D.faults drives.old.items drives.new.items) }
     ensures cause { IfErr result (λ refusal. IsCause D.faults drives.old.items drives.new.items (WishComesTo wish (all_told D.held drives.old.items)) (Some refusal) (refusal_line refusal)) }
     ensures not_output { IfErr result (λ refusal. refusal ≢ output_fault) }
-    ensures means { OnOk result (IfSome (all_told D.held drives.old.items) (λ helds. MeansWish wish helds (opening_of helds))) }
+    ensures means { OnOk result (IfSome (all_told D.held drives.old.items) (λ helds. MeansWish wish (held_graph helds))) }
     ensures reads { IfSome (all_told D.held drives.old.items) (λ helds. LogsGrewByFirst D.log (opening_reads helds) drives.old.items drives.new.items) }
     ensures all_read { OnOk result (IfSome (all_told D.held drives.old.items) (λ helds. LogsGrew D.log (opening_reads helds) drives.old.items drives.new.items)) }
     ensures held { EachSame D.held drives.old.items drives.new.items }

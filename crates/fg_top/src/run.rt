@@ -3,11 +3,10 @@
 ghost use Rattle.std.specs.Prelude.{◌≡◌, ◌≤◌, ◌^◌, IfSome, Ok, length};
 ghost use Rattle.fg_base.specs.declared.limits.TheConstants.{MAX_DRIVES};
 ghost use Rattle.fg_build.specs.Answers.{HoldWhole, OpenedFits};
-ghost use Rattle.fg_build.specs.Opening.{opening_of};
 ghost use Rattle.fg_outside.specs.Drives.{EachSame, LogsGrewBy, RoomyKept, all_told};
 ghost use Rattle.fg_top.specs.Ends.{Ends, LeavesHeld, output_between};
 ghost use Rattle.fg_top.specs.Meaning.{MeansWish};
-ghost use Rattle.fg_top.specs.Outcome.{WishComesTo, rules_of, run_on};
+ghost use Rattle.fg_top.specs.Outcome.{WishComesTo, held_graph, rules_of, run_on};
 ghost use Rattle.fg_top.specs.Reads.{IsAskedBy, RunReads, RunReadsAll};
 ghost use Rattle.fg_top.specs.Running.{RunComesTo};
 ghost use Rattle.fg_top.specs.Tallies.{RoseByRun, RoseByWish, tallied};
@@ -124,9 +123,9 @@ pub fn run_job<D: Drive, K: Sink, T: Tally>(
     ensures drives { EachSame D.held drives.old.items drives.new.items }
     ensures sure { RoomyKept D.room D.faults drives.old.items drives.new.items }
     ensures reads { IfSome (all_told D.held drives.old.items) (λ helds. RunReads D.log wish helds drives.old.items drives.new.items) }
-    ensures means { result ≡ 0 → IfSome (all_told D.held drives.old.items) (λ helds. MeansWish wish helds (opening_of helds)) }
+    ensures means { result ≡ 0 → IfSome (all_told D.held drives.old.items) (λ helds. MeansWish wish (held_graph helds)) }
     ensures all_read { result ≡ 0 → IfSome (all_told D.held drives.old.items) (λ helds. RunReadsAll D.log wish helds drives.old.items drives.new.items) }
-    ensures tally { result ≡ 0 → IfSome (all_told D.held drives.old.items) (λ helds. RoseByWish wish helds (opening_of helds) (tallied (T.runs tally.old) (T.runs tally.new) (T.entries tally.old) (T.entries tally.new))) }
+    ensures tally { result ≡ 0 → IfSome (all_told D.held drives.old.items) (λ helds. RoseByWish wish (held_graph helds) (tallied (T.runs tally.old) (T.runs tally.new) (T.entries tally.old) (T.entries tally.new))) }
 {
     let opened = match open_sourced(alloc, wish, drives) {
         Ok(opened) => opened,

@@ -3,7 +3,7 @@
 ghost use Rattle.std.specs.Prelude.{◌≡◌, ◌≢◌, ◌≤◌, true, IfSome, Ok, length};
 ghost use Rattle.fg_outside.specs.Drives.{EachSame, all_told};
 ghost use Rattle.fg_top.specs.BuildOutcome.{input_over};
-ghost use Rattle.fg_top.specs.Ends.{Ends, output_between};
+ghost use Rattle.fg_top.specs.Ends.{EndsLeaving, output_between};
 ghost use Rattle.fg_top.specs.GenOutcome.{IsGenerated};
 ghost use Rattle.fg_top.specs.JobLeaves.{CountsInput, DoneBy, EndsInput, KeepsBy, LeavesAt, LeavesBy, TakesBy};
 ghost use Rattle.fg_top.specs.JobOutcome.{JobComesTo};
@@ -31,7 +31,7 @@ pub fn still<S: Source, D: Drive, K: Sink>(
     requires fits { JobFits job.now }
     requires has_drives { HasDrives job.now (length drives.old.items) }
     // The status, its cause, what it leaves on the drives, and the text that was written.
-    ensures ends { Ends D.faults drives.old.items drives.new.items
+    ensures ends { EndsLeaving D.faults drives.old.items drives.new.items
         (JobComesTo job.now (length drives.old.items) (all_told D.held drives.old.items) (input_over (S.left input.old) (S.faults input.old) (S.faults input.new)))
         (LeavesAt D.held D.faults (Ok job.now) (input_over (S.left input.old) (S.faults input.old) (S.faults input.new)) drives.old.items drives.new.items)
         (output_between (K.faults out.old) (K.faults out.new) (K.written out.old) (K.written out.new) (K.keeps_back out.new)) result }
@@ -45,8 +45,9 @@ pub fn still<S: Source, D: Drive, K: Sink>(
     ensures all_read { result ≡ 0 → IfSome (all_told D.held drives.old.items) (λ helds. ReadsAllBy D.log (Ok job.now) helds drives.old.items drives.new.items) }
     // Where the job is done, what its values mean.
     ensures meaning { result ≡ 0 → IfSome (all_told D.held drives.old.items) (λ helds. MeansBy (Ok job.now) helds) }
-    // What was taken of the input, and whether it failed.
+    // What was taken of the input, which is nothing where the drives were refused for what they hold, and whether it failed.
     ensures input { TakesBy (Ok job.now) (S.left input.old) (S.left input.new) }
+    ensures unread { result ≡ 7 → S.left input.new ≡ S.left input.old }
     ensures input_end { result ≡ 0 → EndsInput (Ok job.now) (S.left input.new) }
     ensures input_faults { CountsInput (Ok job.now) (S.faults input.old) (S.faults input.new) result }
     ensures input_later { S.faults input.old ≤ S.faults input.new }

@@ -2,11 +2,11 @@ use Rattle.std.proofs.Common.{[], true, false, IfSome, Some, Ok, Result, map, le
 use Rattle.fg_base.specs.declared.refusal.Refusal.{Refusal}
 use Rattle.fg_base.specs.declared.refusal.WordFault.{WordFault}
 use Rattle.fg_outside.specs.Drives.{LogsGrew, all_told}
-use Rattle.fg_outside.proofs.DriveLemmas.{LogsGrew-none}
+use Rattle.fg_outside.proofs.DriveLemmas.{LogsGrew-none, all_told-length}
 use Rattle.fg_report.specs.Refusals.{refusal_line}
 use Rattle.fg_top.specs.declared.jobs.Job.{Job}
 use Rattle.fg_top.specs.BuildOutcome.{input_over}
-use Rattle.fg_top.specs.Ends.{Ends, IsWritten, LeavesHeld, output_between}
+use Rattle.fg_top.specs.Ends.{EndsLeaving, IsWritten, LeavesHeld, output_between}
 use Rattle.fg_top.specs.JobLeaves.{DoneBy, LeavesAt}
 use Rattle.fg_top.specs.JobOutcome.{JobComesTo}
 use Rattle.fg_top.specs.Jobs.{AreDrives, HasDrives, JobFits}
@@ -25,7 +25,7 @@ returns-in-Err-clause-ends g c =
     let Is : Refusal → Type 0 = λ refusal. IsWritten output (Some refusal) (refusal_line refusal) c.refuse.result in
     let olds = c.args.drives.now.items in
     ends_unread g.D.Drive.held g.D.Drive.faults (map string_bytes c.args.words.now.items) (length olds) (all_told g.D.Drive.held olds) (g.S.Source.left c.args.input.now) (g.S.Source.faults c.args.input.now)
-    c.in-Err.fault olds output c.refuse.result c.in-Err.ensures.job (subst Is c.refusal_of_words.ensures.refusal c.refuse.ensures)
+    c.in-Err.fault olds output c.refuse.result (all_told-length g.D.Drive.held olds) c.in-Err.ensures.job (subst Is c.refusal_of_words.ensures.refusal c.refuse.ensures)
 
 pub returns-in-Err-clause-generated : goal.returns-in-Err-clause-generated
 returns-in-Err-clause-generated g c =
@@ -90,7 +90,7 @@ returns-in-Run-clause-ends g c =
     let input = input_over (g.S.Source.left c.args.input.now) (g.S.Source.faults c.args.input.now) (g.S.Source.faults c.args.input.now) in
     let output = output_between (g.K.Sink.faults c.args.out.now) (g.K.Sink.faults c.run_job.new.out) (g.K.Sink.written c.args.out.now) (g.K.Sink.written c.run_job.new.out) (g.K.Sink.keeps_back c.run_job.new.out) in
     let told = all_told g.D.Drive.held olds in
-    let P : Job → Type 0 = λ job. Ends g.D.Drive.faults olds news (JobComesTo job (length olds) told input) (LeavesAt g.D.Drive.held g.D.Drive.faults (Ok job) input olds news) output c.run_job.result in
+    let P : Job → Type 0 = λ job. EndsLeaving g.D.Drive.faults olds news (JobComesTo job (length olds) told input) (LeavesAt g.D.Drive.held g.D.Drive.faults (Ok job) input olds news) output c.run_job.result in
     ends_given g.D.Drive.held g.D.Drive.faults (map string_bytes c.args.words.now.items) (length olds) told input c.in-Ok.job olds news output c.run_job.result c.in-Ok.ensures.job
     (subst P (sym c.in-Run.is) c.run_job.ensures.ends)
 
@@ -101,7 +101,7 @@ returns-in-Large-clause-ends g c =
     let output = output_between (g.K.Sink.faults c.args.out.now) (g.K.Sink.faults c.large_job.new.out) (g.K.Sink.written c.args.out.now) (g.K.Sink.written c.large_job.new.out) (g.K.Sink.keeps_back c.large_job.new.out) in
     let told = all_told g.D.Drive.held olds in
     let large = c.in-Large in
-    let P : Job → Type 0 = λ job. Ends g.D.Drive.faults olds olds (JobComesTo job (length olds) told input) (LeavesAt g.D.Drive.held g.D.Drive.faults (Ok job) input olds olds) output c.large_job.result in
+    let P : Job → Type 0 = λ job. EndsLeaving g.D.Drive.faults olds olds (JobComesTo job (length olds) told input) (LeavesAt g.D.Drive.held g.D.Drive.faults (Ok job) input olds olds) output c.large_job.result in
     let comes = LargeComesTo (wish_for large.pick large.max false true) (recipe_for large.start large.nodes large.edges large.undirected) in
     ends_given g.D.Drive.held g.D.Drive.faults (map string_bytes c.args.words.now.items) (length olds) told input c.in-Ok.job olds olds output c.large_job.result c.in-Ok.ensures.job
     (subst P (sym large.is)

@@ -36,7 +36,8 @@ returns-then-pages-ne0-clause-says g c =
     c.in-Ok.ensures.count c.if-pages-ne0.true
 
 pub returns-then-pages-ne0-clause-counts : goal.returns-then-pages-ne0-clause-counts
-returns-then-pages-ne0-clause-counts g c = EachSame-more g.D.Drive.faults _ c.loop-drive.drives _ c.loop-drive.invariant.counts c.in-Ok.ensures.none_rose
+returns-then-pages-ne0-clause-counts g c =
+    (omega (arith, c.loop-drive-test.true), EachSame-more g.D.Drive.faults _ c.loop-drive.drives _ c.loop-drive.invariant.counts c.in-Ok.ensures.none_rose)
 
 pub returns-then-pages-ne0-clause-log : goal.returns-then-pages-ne0-clause-log
 returns-then-pages-ne0-clause-log g c = EachSame-more g.D.Drive.log _ c.loop-drive.drives _ c.loop-drive.invariant.log c.count_pages.ensures.log

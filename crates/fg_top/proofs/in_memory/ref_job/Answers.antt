@@ -1,6 +1,6 @@
 use Rattle.fg_outside.specs.Drives.{all_told}
 use Rattle.fg_top.specs.Ends.{LeavesHeld}
-use Rattle.fg_top.specs.Running.{run_in}
+use Rattle.fg_top.specs.Outcome.{run_in}
 use Rattle.fg_top.proofs.JobLemmas.{ends_at_head, ends_in_memory_after_head}
 use Rattle.fg_top.proofs.in_memory.ref_job.Goals as goal
 

@@ -3,7 +3,7 @@ use Rattle.fg_outside.specs.Drives.{LogsGrew, all_told}
 use Rattle.fg_outside.proofs.DriveLemmas.{LogsGrew-none, LogsGrew-same}
 use Rattle.fg_top.specs.declared.jobs.Job.{Job}
 use Rattle.fg_top.specs.BuildOutcome.{input_over}
-use Rattle.fg_top.specs.Ends.{Ends, LeavesHeld, output_between}
+use Rattle.fg_top.specs.Ends.{EndsLeaving, LeavesHeld, output_between}
 use Rattle.fg_top.specs.GenOutcome.{GenComesTo, IsGenerated}
 use Rattle.fg_top.specs.JobLeaves.{DoneBy, LeavesAt}
 use Rattle.fg_top.specs.JobOutcome.{JobComesTo}
@@ -15,7 +15,7 @@ use Rattle.fg_top.proofs.still_jobs.still.Goals as goal
 pub returns-in-Build-clause-ends : goal.returns-in-Build-clause-ends
 returns-in-Build-clause-ends g c =
     let olds = c.args.drives.now.items in
-    let P : Job → Type 0 = λ job. Ends g.D.Drive.faults olds c.build_job.new.drives.items
+    let P : Job → Type 0 = λ job. EndsLeaving g.D.Drive.faults olds c.build_job.new.drives.items
     (JobComesTo job (length olds) (all_told g.D.Drive.held olds) (input_over (g.S.Source.left c.args.input.now) (g.S.Source.faults c.args.input.now) (g.S.Source.faults c.build_job.new.input)))
     (LeavesAt g.D.Drive.held g.D.Drive.faults (Ok job) (input_over (g.S.Source.left c.args.input.now) (g.S.Source.faults c.args.input.now) (g.S.Source.faults c.build_job.new.input)) olds c.build_job.new.drives.items)
     (output_between (g.K.Sink.faults c.args.out.now) (g.K.Sink.faults c.build_job.new.out) (g.K.Sink.written c.args.out.now) (g.K.Sink.written c.build_job.new.out) (g.K.Sink.keeps_back c.build_job.new.out)) c.build_job.result in
@@ -41,7 +41,7 @@ pub returns-in-Ref-clause-ends : goal.returns-in-Ref-clause-ends
 returns-in-Ref-clause-ends g c =
     let olds = c.args.drives.now.items in
     let faults = g.S.Source.faults c.args.input.now in
-    let P : Job → Type 0 = λ job. Ends g.D.Drive.faults olds c.ref_job.new.drives.items
+    let P : Job → Type 0 = λ job. EndsLeaving g.D.Drive.faults olds c.ref_job.new.drives.items
     (JobComesTo job (length olds) (all_told g.D.Drive.held olds) (input_over (g.S.Source.left c.args.input.now) faults faults))
     (LeavesAt g.D.Drive.held g.D.Drive.faults (Ok job) (input_over (g.S.Source.left c.args.input.now) faults faults) olds c.ref_job.new.drives.items)
     (output_between (g.K.Sink.faults c.args.out.now) (g.K.Sink.faults c.ref_job.new.out) (g.K.Sink.written c.args.out.now) (g.K.Sink.written c.ref_job.new.out) (g.K.Sink.keeps_back c.ref_job.new.out)) c.ref_job.result in
@@ -52,7 +52,7 @@ returns-in-Gen-clause-ends g c =
     let olds = c.args.drives.now.items in
     let faults = g.S.Source.faults c.args.input.now in
     let output = output_between (g.K.Sink.faults c.args.out.now) (g.K.Sink.faults c.gen_job.new.out) (g.K.Sink.written c.args.out.now) (g.K.Sink.written c.gen_job.new.out) (g.K.Sink.keeps_back c.gen_job.new.out) in
-    let P : Job → Type 0 = λ job. Ends g.D.Drive.faults olds olds
+    let P : Job → Type 0 = λ job. EndsLeaving g.D.Drive.faults olds olds
     (JobComesTo job (length olds) (all_told g.D.Drive.held olds) (input_over (g.S.Source.left c.args.input.now) faults faults))
     (LeavesAt g.D.Drive.held g.D.Drive.faults (Ok job) (input_over (g.S.Source.left c.args.input.now) faults faults) olds olds) output c.gen_job.result in
     let comes = GenComesTo c.in-Gen.start c.in-Gen.nodes c.in-Gen.edges in
