@@ -11,6 +11,8 @@ pub mod limits;
 mod plain;
 mod refusal;
 mod tally;
+#[cfg(test)]
+mod tests;
 
 pub use answers::{Failed, Memory};
 pub use count::Count;

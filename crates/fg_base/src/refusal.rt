@@ -96,6 +96,12 @@ pub enum Refusal {
     BadSource(u32, u32),
     #[error("vertex {} target {}", .0.v, .0.found)]
     BadEdge(BadEdge),
+    /// This page of the image has a byte other than 0 behind its section's end.
+    #[error("page {0} padding")]
+    BadPadding(u32),
+    /// The in-list of this vertex isn't the turned out-entries that lead to it.
+    #[error("vertex {0} not mirrored")]
+    NotMirror(u32),
 }
 
 impl Refusal {
@@ -123,6 +129,7 @@ impl Refusal {
             | Refusal::BadSections
             | Refusal::BadIndex(_, _) => 7,
             Refusal::BadSource(_, _) | Refusal::BadEdge(_) => 8,
+            Refusal::BadPadding(_) | Refusal::NotMirror(_) => 9,
         }
     }
 }

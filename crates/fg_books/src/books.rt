@@ -83,6 +83,28 @@ impl Books {
         (rest, cut)
     }
 
+    /// Cuts as `cut` does, from a lot behind a reference, which has the rest afterwards.
+    pub fn cut_off(&self, lot: &mut Lot, first: u32, count: u32, parts: u32) -> Lot
+        requires own { lot.old.books ≡ self.now }
+        requires parts { (k : ℕ) → first ≤ k → k < first + count → parts ≤ parts_of lot.old k }
+        requires amounts { (k : ℕ) → first ≤ k → k < first + count → parts_of lot.old k ≡ parts → amount_of lot.old k ≡ pos 0 }
+        ensures own { (lot.new.books ≡ self.now) × (result.books ≡ self.now) }
+        ensures cut { (k : ℕ) → first ≤ k → k < first + count → parts_of result k ≡ parts }
+        ensures rest { (k : ℕ) → first ≤ k → k < first + count → parts_of lot.new k + parts ≡ parts_of lot.old k }
+        ensures no_others { (k : ℕ) → (k < first) ⊎ (first + count ≤ k) → parts_of result k ≡ 0 }
+        ensures others { (k : ℕ) → (k < first) ⊎ (first + count ≤ k) → parts_of lot.new k ≡ parts_of lot.old k }
+        ensures no_amounts { (k : ℕ) → amount_of result k ≡ pos 0 }
+        ensures amounts { (k : ℕ) → amount_of lot.new k ≡ amount_of lot.old k }
+    {
+        let whole = Lot {
+            badge: mem::replace(&mut lot.badge, Badge::blank()),
+        };
+        let (left, cut) = self.cut(whole, first, count, parts);
+        let Lot { badge } = left;
+        lot.badge = badge;
+        cut
+    }
+
     /// All of both lots: the parts and the amounts of a ledger's shares are added.
     pub fn join(&self, one: Lot, other: Lot) -> Lot
         requires own { (one.books ≡ self.now) × (other.books ≡ self.now) }

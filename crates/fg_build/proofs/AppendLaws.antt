@@ -261,7 +261,7 @@ none_above a (suc m) n above =
     ap (λ (test : Bool). cond test (a ∷ filter (λ k. k == n) (range_with_len (a + 1) m)) (filter (λ k. k == n) (range_with_len (a + 1) m))) (ne_eqb a n (λ same. omega (arith, same, above)))
     ∙ none_above (a + 1) m n (omega (arith, above))
 
-own_dealt : (bytes : ℕ → List ℕ) (count drive : ℕ) → drive < count → dealt (λ k. k) bytes count drive ≡ bytes drive
+pub own_dealt : (bytes : ℕ → List ℕ) (count drive : ℕ) → drive < count → dealt (λ k. k) bytes count drive ≡ bytes drive
 own_dealt bytes count drive below = ap (flat_map bytes) (one_of 0 count drive (omega arith) (omega (arith, below))) ∙ append-nil (bytes drive)
 
 own_counted : (count drive : ℕ) → drive < count → dealt_count (λ k. k) count drive ≡ 1

@@ -1,4 +1,5 @@
 mod AppendLaws
+pub mod AskedLaws
 pub mod BuildLaws
 pub mod BuiltLaws
 pub mod CallLaws
@@ -8,5 +9,8 @@ pub mod HeldLaws
 pub mod ImageLaws
 mod LabelLaws
 mod OpeningLaws
-mod PageLaws
+pub mod OrderLaws
+pub mod PageLaws
+pub mod PlaceLaws
 mod RefusalLaws
+mod ToldLaws

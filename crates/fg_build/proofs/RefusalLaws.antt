@@ -41,7 +41,7 @@ if_none : (test : Bool) (x : Option Refusal) (refusal : Refusal) → cond test x
 if_none true x refusal is = (refl, is)
 if_none false x refusal is = absurd (cc)
 
-needs_same : (drive : ℕ) (first label : Label) → label.drives ≡ first.drives → label.unit ≡ first.unit → label.pages ≡ first.pages → need_of drive label ≡ need_of drive first
+pub needs_same : (drive : ℕ) (first label : Label) → label.drives ≡ first.drives → label.unit ≡ first.unit → label.pages ≡ first.pages → need_of drive label ≡ need_of drive first
 needs_same drive first label drives unit pages = rw (drives, unit, pages) refl
 
 -- a drive that nothing refuses has the pages that drive 0's label asks of it

@@ -5,6 +5,9 @@ use Rattle.fg_base.specs.declared.refusal.Refusal.{Refusal}
 use Rattle.fg_base.specs.Told.{grown, GrewByFirst}
 use Rattle.fg_outside.specs.Drives.{EachDriveFrom, NoneRose, RoseFirst}
 use Rattle.fg_outside.specs.Pages.{HasRoom, lessened}
+use Rattle.fg_stripe.specs.declared.label.Label.{Label}
+use Rattle.fg_stripe.specs.Held.{page_of}
+use Rattle.fg_stripe.specs.Striping.{drive_of}
 
 -- bytes that are this drive's alone, and how many of its pages they are
 abbrev pub on_drive : ℕ → List ℕ → ℕ → List ℕ
@@ -24,6 +27,13 @@ dealt taker bytes count drive = flat_map bytes (taken taker count drive)
 -- their number
 abbrev pub dealt_count : (ℕ → ℕ) → ℕ → ℕ → ℕ
 dealt_count taker count drive = length (taken taker count drive)
+
+-- the pages of an image that a drive takes by the image's label: their bytes, and their number
+abbrev pub pages_dealt : Label → List ℕ → ℕ → List ℕ
+pages_dealt label image = dealt (λ page. drive_of page label.drives label.unit) (page_of image) label.pages
+
+abbrev pub pages_dealt_count : Label → ℕ → ℕ
+pages_dealt_count label = dealt_count (λ page. drive_of page label.drives label.unit) label.pages
 
 -- no drive failed that tells room for its so many pages, whatever the others did
 abbrev pub RoomyKeptFor : {D : Type 0} → (D → Option ℕ) → (D → ℕ) → (ℕ → ℕ) → List D → List D → Type 0

@@ -17,6 +17,10 @@ pub record Plan : Type 0 where
 abbrev pub plan_of : ℕ → ℕ → ℕ → Plan
 plan_of drives unit number = record { drives = drives; unit = unit; number = number }
 
+-- the same by an image's label
+abbrev pub plan_by : Label → Plan
+plan_by label = plan_of label.drives label.unit label.number
+
 -- the label of a drive of an image of so many pages
 abbrev pub label_for : Plan → ℕ → ℕ → Label
 label_for plan pages drive = record { drive = drive; drives = plan.drives; unit = plan.unit; pages = pages; number = plan.number }

@@ -1,11 +1,16 @@
 pub mod Answers
 pub mod Appending
+pub mod Appends
+pub mod Asked
 pub mod Building
 pub mod Calls
 pub mod Front
 pub mod Labelled
 pub mod Labels
 pub mod Layouts
+pub mod OnlyRead
 pub mod Opening
 pub mod OpeningReads
 pub mod Pages
+pub mod PagesTold
+pub mod ToldImage

@@ -1,12 +1,13 @@
 -- The reads by which drives are opened: each drive's label, then the header page, then each page of the index, ascending,
 -- each page alone; and the reads of a whole image.
-use Rattle.std.specs.Prelude.{ℕ, Option, None, Some, Result, Ok, Err, List, [], ◌∷◌, ◌++◌, length, map}
+use Rattle.std.specs.Prelude.{ℕ, IfSome, Option, None, Some, Result, Ok, Err, List, [], ◌∷◌, ◌++◌, length, map}
 use Rattle.std.specs.List.{range_with_len}
 use Rattle.fg_base.specs.declared.refusal.Refusal.{Refusal}
 use Rattle.fg_build.specs.Labels.{drives_refusal, first_label}
 use Rattle.fg_image.specs.Front.{Front, front_at}
 use Rattle.fg_image.specs.Header.{pages_for}
-use Rattle.fg_outside.specs.Drives.{DriveRead}
+use Rattle.fg_outside.specs.Drives.{DriveRead, LogsGrew, LogsGrewByFirst, all_told}
+use Rattle.fg_outside.specs.declared.drive.Read.{Read}
 use Rattle.fg_outside.specs.Log.{read_of}
 use Rattle.fg_stripe.specs.declared.label.Label.{Label}
 use Rattle.fg_stripe.specs.declared.layout.Layout.{Layout}
@@ -48,6 +49,13 @@ reads_behind helds (Some label) None = image_reads label helds
 -- the reads of a whole opening of drives that hold these bytes
 unfoldable pub opening_reads : List (List ℕ) → List DriveRead
 opening_reads helds = label_reads (length helds) ++ reads_behind helds (first_label helds) (drives_refusal helds (first_label helds))
+
+-- the logs grew by these reads, or by some first of them, where the drives tell what they hold
+abbrev pub OpeningRead : {D : Type 0} → (D → Option (List ℕ)) → (D → Option (List Read)) → List D → List D → Type 0
+OpeningRead held log olds news = IfSome (all_told held olds) (λ helds. LogsGrew log (opening_reads helds) olds news)
+
+abbrev pub OpeningReadFirst : {D : Type 0} → (D → Option (List ℕ)) → (D → Option (List Read)) → List D → List D → Type 0
+OpeningReadFirst held log olds news = IfSome (all_told held olds) (λ helds. LogsGrewByFirst log (opening_reads helds) olds news)
 
 -- the reads of a whole image
 abbrev pub whole_reads : Layout → List DriveRead

@@ -1,13 +1,12 @@
 //! Appending an image to drives: each drive its label, and then each page of the image to its drive.
 
-ghost use Rattle.std.specs.Prelude.{◌≡◌, ◌<◌, ◌≤◌, ◌/◌, ◌+◌, length};
+ghost use Rattle.std.specs.Prelude.{◌≡◌, ◌<◌, ◌≤◌, ◌/◌, ◌+◌, [], ◌∷◌, length};
 ghost use Rattle.fg_base.specs.declared.limits.TheConstants.{MAX_DRIVES, MAX_IMAGE_PAGES, PAGE_BYTES};
-ghost use Rattle.fg_build.specs.Appending.{Appends, RoomyKeptFor, dealt, dealt_count, on_drive, one_on};
-ghost use Rattle.fg_build.specs.Layouts.{layout_of, layout_pages, plan_of};
+ghost use Rattle.fg_build.specs.Appending.{Appends, RoomyKeptFor, on_drive, one_on, pages_dealt, pages_dealt_count};
+ghost use Rattle.fg_build.specs.Appends.{AppendsInOrder, append_of, image_appends, label_appends, page_appends};
+ghost use Rattle.fg_build.specs.Layouts.{layout_of, layout_pages, plan_by};
 ghost use Rattle.fg_outside.specs.Drives.{EachSame};
-ghost use Rattle.fg_stripe.specs.Held.{page_of};
 ghost use Rattle.fg_stripe.specs.Label.{label_bytes};
-ghost use Rattle.fg_stripe.specs.Striping.{drive_of};
 
 use fg_base::Refusal;
 use fg_base::limits::PAGE_BYTES;
@@ -21,6 +20,7 @@ fn append_to<D: Drive>(drives: &mut [D], drive: u32, page: &[u8]) -> Result<(), 
     requires whole { length page.now ≡ PAGE_BYTES }
 
     ensures appends { Appends D.held D.room D.faults (on_drive drive page.now) (one_on drive) drives.old drives.new result }
+    ensures in_order { AppendsInOrder D.held (append_of drive page.now ∷ []) drives.old drives.new result }
     ensures log { EachSame D.log drives.old drives.new }
     ensures sure { RoomyKeptFor D.room D.faults (one_on drive) drives.old drives.new }
 {
@@ -35,6 +35,7 @@ fn append_labels<D: Drive>(drives: &mut [D], label: &Label) -> Result<(), Refusa
     requires few { length drives.old ≤ MAX_DRIVES }
 
     ensures appends { Appends D.held D.room D.faults (λ drive. label_bytes (record label.now { drive = drive })) (λ drive. 1) drives.old drives.new result }
+    ensures in_order { AppendsInOrder D.held (label_appends (length drives.old) label.now) drives.old drives.new result }
     ensures log { EachSame D.log drives.old drives.new }
     ensures sure { RoomyKeptFor D.room D.faults (λ drive. 1) drives.old drives.new }
 {
@@ -57,9 +58,10 @@ fn append_pages<D: Drive>(drives: &mut [D], label: &Label, image: &[u8]) -> Resu
     requires pages { label.now.pages ≡ length image.now / 4096 }
     requires few { label.now.pages ≤ MAX_IMAGE_PAGES }
 
-    ensures appends { Appends D.held D.room D.faults (dealt (λ page. drive_of page label.now.drives label.now.unit) (page_of image.now) label.now.pages) (dealt_count (λ page. drive_of page label.now.drives label.now.unit) label.now.pages) drives.old drives.new result }
+    ensures appends { Appends D.held D.room D.faults (pages_dealt label.now image.now) (pages_dealt_count label.now) drives.old drives.new result }
+    ensures in_order { AppendsInOrder D.held (page_appends label.now.drives label.now.unit image.now label.now.pages) drives.old drives.new result }
     ensures log { EachSame D.log drives.old drives.new }
-    ensures sure { RoomyKeptFor D.room D.faults (dealt_count (λ page. drive_of page label.now.drives label.now.unit) label.now.pages) drives.old drives.new }
+    ensures sure { RoomyKeptFor D.room D.faults (pages_dealt_count label.now) drives.old drives.new }
 {
     for page in 0..label.pages {
         let from = page as usize * PAGE_BYTES;
@@ -85,9 +87,10 @@ pub(crate) fn append_image<D: Drive>(
     requires pages { label.now.pages ≡ length image.now / 4096 }
     requires few { label.now.pages ≤ MAX_IMAGE_PAGES }
 
-    ensures appends { Appends D.held D.room D.faults (layout_of (plan_of label.now.drives label.now.unit label.now.number) image.now) (layout_pages (plan_of label.now.drives label.now.unit label.now.number) image.now) drives.old drives.new result }
+    ensures appends { Appends D.held D.room D.faults (layout_of (plan_by label.now) image.now) (layout_pages (plan_by label.now) image.now) drives.old drives.new result }
+    ensures in_order { AppendsInOrder D.held (image_appends (plan_by label.now) image.now) drives.old drives.new result }
     ensures log { EachSame D.log drives.old drives.new }
-    ensures sure { RoomyKeptFor D.room D.faults (layout_pages (plan_of label.now.drives label.now.unit label.now.number) image.now) drives.old drives.new }
+    ensures sure { RoomyKeptFor D.room D.faults (layout_pages (plan_by label.now) image.now) drives.old drives.new }
 {
     if let Err(refusal) = append_labels(drives, label) {
         return Err(refusal);

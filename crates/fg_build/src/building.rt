@@ -3,9 +3,11 @@
 ghost use Rattle.std.specs.Prelude.{◌≡◌, ◌<◌, ◌≤◌, ◌/◌, IfOk, IfSome, IsOk, OnOk, length};
 ghost use Rattle.fg_base.specs.declared.limits.TheConstants.{MAX_DRIVES, MAX_UNIT};
 ghost use Rattle.fg_build.specs.Answers.{ReadCounts};
+ghost use Rattle.fg_build.specs.Appends.{BuildsInOrder, build_appends};
 ghost use Rattle.fg_build.specs.Building.{Builds, EmptyCounts, RoomyKeptForImage, SaysEmpty};
 ghost use Rattle.fg_build.specs.Calls.{Keeps};
 ghost use Rattle.fg_build.specs.Layouts.{plan_of};
+ghost use Rattle.fg_build.specs.PagesTold.{EmptyTold};
 ghost use Rattle.fg_image.specs.Made.{image_bytes};
 ghost use Rattle.fg_outside.specs.Drives.{EachSame, RoomyKept, all_told};
 
@@ -23,6 +25,7 @@ use std::alloc::Global;
 pub fn empty<D: Drive>(drives: &mut Vec<D>) -> Result<(), Refusal>
     requires few { length drives.old.items ≤ MAX_DRIVES }
     ensures says { IfSome (all_told D.held drives.old.items) (λ helds. SaysEmpty result helds) }
+    ensures told { EmptyTold D.told drives.old.items drives.new.items result }
     ensures counts { EmptyCounts D.faults drives.old.items drives.new.items result }
     ensures held { EachSame D.held drives.old.items drives.new.items }
     ensures log { EachSame D.log drives.old.items drives.new.items }
@@ -48,6 +51,7 @@ pub fn build<D: Drive>(
     requires small_unit { unit ≤ MAX_UNIT }
     ensures pages { IfOk result (λ pages. pages ≡ length (image_bytes edges.now) / 4096) }
     ensures holds { Builds D.held (plan_of (length drives.old.items) unit number) edges.now drives.old.items drives.new.items result }
+    ensures in_order { BuildsInOrder D.held (build_appends (plan_of (length drives.old.items) unit number) edges.now) drives.old.items drives.new.items result }
     ensures counts { ReadCounts D.faults drives.old.items drives.new.items result }
     ensures log { EachSame D.log drives.old.items drives.new.items }
     ensures sure { RoomyKeptForImage D.room D.faults (plan_of (length drives.old.items) unit number) edges.now drives.old.items drives.new.items }
@@ -74,6 +78,7 @@ fn look_at_all<D: Drive>(drives: &mut [D]) -> Result<(), Refusal>
     requires few { length drives.old ≤ MAX_DRIVES }
 
     ensures says { IfSome (all_told D.held drives.old) (λ helds. SaysEmpty result helds) }
+    ensures told { EmptyTold D.told drives.old drives.new result }
     ensures counts { EmptyCounts D.faults drives.old drives.new result }
     ensures log { EachSame D.log drives.old drives.new }
     ensures keeps { Keeps D.held D.room D.faults drives.old drives.new }

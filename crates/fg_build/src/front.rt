@@ -1,14 +1,15 @@
 //! The header page and the index of an image on drives.
 
-ghost use Rattle.std.specs.Prelude.{◌≡◌, ◌<◌, ◌≤◌, [], ◌∷◌, IfOk, IfSome, length, take};
+ghost use Rattle.std.specs.Prelude.{◌≡◌, ◌<◌, ◌≤◌, [], ◌∷◌, IfErr, IfOk, IfSome, length};
 ghost use Rattle.fg_build.specs.Answers.{HoldWhole};
 ghost use Rattle.fg_build.specs.Calls.{IsAnswer, Keeps, ReadFor};
-ghost use Rattle.fg_build.specs.Front.{IsFront};
-ghost use Rattle.fg_build.specs.OpeningReads.{page_read, page_reads};
-ghost use Rattle.fg_build.specs.Pages.{IsStriped, pages_at};
+ghost use Rattle.fg_build.specs.Front.{IsFront, index_on, reads_of_index};
+ghost use Rattle.fg_build.specs.OpeningReads.{page_read};
+ghost use Rattle.fg_build.specs.Pages.{IsStriped};
+ghost use Rattle.fg_build.specs.PagesTold.{IsBehindLabels};
 ghost use Rattle.fg_image.specs.Front.{HeaderFits, front_at};
-ghost use Rattle.fg_image.specs.Header.{is_weighted, pages_for};
-ghost use Rattle.fg_image.specs.Image.{IndexFits, index_of};
+ghost use Rattle.fg_image.specs.Header.{is_weighted};
+ghost use Rattle.fg_image.specs.Image.{IndexFits};
 ghost use Rattle.fg_outside.specs.Drives.{EachSame, all_told};
 ghost use Rattle.fg_stripe.specs.Held.{page_on};
 
@@ -34,6 +35,7 @@ pub(crate) fn read_front<D: Drive>(
     ensures answer { IfSome (all_told D.held drives.old) (λ helds. IsFront (front_at striping.now.pages (page_on striping.now.unit helds 0)) result) }
     ensures fits { IfOk result (λ front. HeaderFits front.0 front.1) }
     ensures pages { IfOk result (λ front. front.1.pages ≡ striping.now.pages) }
+    ensures behind { IfErr result IsBehindLabels }
     ensures same_told { EachSame D.told drives.old drives.new }
 
     ensures keeps { Keeps D.held D.room D.faults drives.old drives.new }
@@ -65,14 +67,15 @@ pub(crate) fn read_index<D: Drive>(
     requires told { HoldWhole D.told layout.now drives.old }
     requires fits { HeaderFits header.now layout.now }
 
-    ensures answer { IfSome (all_told D.held drives.old) (λ helds. IsAnswer (index_of header.now (take header.now.index_bytes (pages_at layout.now.unit helds header.now.index_first (pages_for header.now.index_bytes)))) result) }
+    ensures answer { IfSome (all_told D.held drives.old) (λ helds. IsAnswer (index_on layout.now header.now helds) result) }
     ensures fits { IfOk result (λ index. IndexFits layout.now index) }
     ensures vertices { IfOk result (λ index. length index.outs ≡ header.now.n) }
     ensures weighted { IfOk result (λ index. index.weighted ≡ is_weighted header.now) }
+    ensures behind { IfErr result IsBehindLabels }
     ensures same_told { EachSame D.told drives.old drives.new }
 
     ensures keeps { Keeps D.held D.room D.faults drives.old drives.new }
-    ensures reads { ReadFor D.faults D.log (page_reads layout.now.drives layout.now.unit header.now.index_first (pages_for header.now.index_bytes)) drives.old drives.new result }
+    ensures reads { ReadFor D.faults D.log (reads_of_index layout.now header.now) drives.old drives.new result }
 {
     let first = header.index_first;
     let bytes = match read_pages(alloc, drives, layout, first, layout.pages - first) {

@@ -1,12 +1,13 @@
 //! The labels of drives that are to hold one image.
 
-ghost use Rattle.std.specs.Prelude.{◌≡◌, ◌<◌, ◌≤◌, ◌+◌, ◌==◌, ◌&&◌, true, [], ◌∷◌, IfOk, IfSome, length, slice_index_or};
+ghost use Rattle.std.specs.Prelude.{◌≡◌, ◌<◌, ◌≤◌, ◌+◌, ◌==◌, ◌&&◌, true, [], ◌∷◌, IfErr, IfOk, IfSome, length, slice_index_or};
 ghost use Rattle.fg_base.specs.declared.limits.TheConstants.{MAX_DRIVES};
 ghost use Rattle.fg_build.specs.Answers.{HoldWhole};
 ghost use Rattle.fg_build.specs.Calls.{Keeps, ReadFor};
 ghost use Rattle.fg_build.specs.Labelled.{IsAllLabelled, IsFirst, IsLabelled, IsPassed, LabelFits, ToldEnough, striping_of};
 ghost use Rattle.fg_build.specs.Labels.{agrees_with, need_of, refusal_by};
 ghost use Rattle.fg_build.specs.OpeningReads.{alone, label_reads};
+ghost use Rattle.fg_build.specs.PagesTold.{IsOf, IsRefusedAt, IsUnlabelled, RefusedTold, ToldAlone, ToldHere};
 ghost use Rattle.fg_outside.specs.Drives.{ToldBy, all_told};
 
 use fg_base::Refusal;
@@ -71,7 +72,9 @@ fn read_label<D: Drive>(drives: &mut [D], drive: u32) -> Result<Labelled, Refusa
 
     ensures answer { IfSome (all_told D.held drives.old) (λ helds. IsLabelled drive (slice_index_or helds drive []) result) }
     ensures fits { IfOk result (λ found. LabelFits found.label) }
+    ensures some { IfOk result (λ found. 1 ≤ found.pages) }
     ensures told { IfOk result (λ found. ToldBy D.told drive found.pages drives.old drives.new) }
+    ensures told_err { IfErr result (λ refusal. IsUnlabelled drive refusal × ToldAlone D.told drive drives.old drives.new) }
 
     ensures keeps { Keeps D.held D.room D.faults drives.old drives.new }
     ensures reads { ReadFor D.faults D.log (alone drive 0 ∷ []) drives.old drives.new result }
@@ -100,6 +103,7 @@ fn check_drive<D: Drive>(drives: &mut [D], first: &Label, drive: u32) -> Result<
 
     ensures answer { IfSome (all_told D.held drives.old) (λ helds. IsPassed (length drives.old) first.now drive (slice_index_or helds drive []) result) }
     ensures told { IfOk result (λ _. ToldEnough D.told drive (need_of drive first.now) drives.old drives.new) }
+    ensures told_err { IfErr result (λ refusal. IsOf drive refusal × ToldHere D.told first.now drive refusal drives.old drives.new) }
 
     ensures keeps { Keeps D.held D.room D.faults drives.old drives.new }
     ensures reads { ReadFor D.faults D.log (alone drive 0 ∷ []) drives.old drives.new result }
@@ -124,6 +128,7 @@ fn read_first<D: Drive>(drives: &mut [D]) -> Result<Label, Refusal>
     ensures fits { IfOk result LabelFits }
     ensures same { IfOk result (λ label. label.drives ≡ length drives.old) }
     ensures told { IfOk result (λ label. ToldEnough D.told 0 (need_of 0 label) drives.old drives.new) }
+    ensures told_err { IfErr result (λ refusal. IsOf 0 refusal × IsRefusedAt D.told 0 refusal drives.old drives.new) }
 
     ensures keeps { Keeps D.held D.room D.faults drives.old drives.new }
     ensures reads { ReadFor D.faults D.log (alone 0 0 ∷ []) drives.old drives.new result }
@@ -148,6 +153,7 @@ pub(crate) fn read_labels<D: Drive>(drives: &mut [D]) -> Result<Label, Refusal>
     ensures answer { IfSome (all_told D.held drives.old) (λ helds. IsAllLabelled helds result) }
     ensures fits { IfOk result LabelFits }
     ensures told { IfOk result (λ label. HoldWhole D.told (striping_of label) drives.new) }
+    ensures told_err { IfErr result (RefusedTold D.told drives.old drives.new) }
 
     ensures keeps { Keeps D.held D.room D.faults drives.old drives.new }
     ensures reads { ReadFor D.faults D.log (label_reads (length drives.old)) drives.old drives.new result }

@@ -1,12 +1,13 @@
 //! Opening drives.
 
-ghost use Rattle.std.specs.Prelude.{◌≡◌, ◌≤◌, IfOk, IfSome, OnOk, length};
+ghost use Rattle.std.specs.Prelude.{◌≡◌, ◌≤◌, IfErr, IfOk, IfSome, OnOk, length};
 ghost use Rattle.fg_base.specs.declared.limits.TheConstants.{MAX_DRIVES};
 ghost use Rattle.fg_build.specs.Answers.{HoldWhole, IsOpening, OpenedFits, OpeningCounts};
 ghost use Rattle.fg_build.specs.Calls.{Keeps, ReadFor};
 ghost use Rattle.fg_build.specs.Opening.{opening_of};
-ghost use Rattle.fg_build.specs.OpeningReads.{opening_reads};
-ghost use Rattle.fg_outside.specs.Drives.{EachSame, LogsGrew, LogsGrewByFirst, RoomyKept, all_told};
+ghost use Rattle.fg_build.specs.OpeningReads.{OpeningRead, OpeningReadFirst, opening_reads};
+ghost use Rattle.fg_build.specs.PagesTold.{RefusedTold};
+ghost use Rattle.fg_outside.specs.Drives.{EachSame, RoomyKept, all_told};
 
 use crate::front::{read_front, read_index};
 use crate::labels::{read_labels, striping_of};
@@ -28,9 +29,10 @@ pub fn open<D: Drive>(alloc: Global, drives: &mut Vec<D>) -> Result<Opened, Refu
     ensures answer { IfSome (all_told D.held drives.old.items) (λ helds. IsOpening (opening_of helds) result) }
     ensures fits { IfOk result OpenedFits }
     ensures told { IfOk result (λ opened. HoldWhole D.told opened.layout drives.new.items) }
+    ensures told_err { IfErr result (RefusedTold D.told drives.old.items drives.new.items) }
     ensures counts { OpeningCounts D.faults drives.old.items drives.new.items result }
-    ensures reads { IfSome (all_told D.held drives.old.items) (λ helds. LogsGrewByFirst D.log (opening_reads helds) drives.old.items drives.new.items) }
-    ensures all_read { OnOk result (IfSome (all_told D.held drives.old.items) (λ helds. LogsGrew D.log (opening_reads helds) drives.old.items drives.new.items)) }
+    ensures reads { OpeningReadFirst D.held D.log drives.old.items drives.new.items }
+    ensures all_read { OnOk result (OpeningRead D.held D.log drives.old.items drives.new.items) }
     ensures held { EachSame D.held drives.old.items drives.new.items }
     ensures room { EachSame D.room drives.old.items drives.new.items }
     ensures sure { RoomyKept D.room D.faults drives.old.items drives.new.items }
@@ -46,6 +48,7 @@ fn open_drives<D: Drive>(alloc: Global, drives: &mut [D]) -> Result<Opened, Refu
     ensures answer { IfSome (all_told D.held drives.old) (λ helds. IsOpening (opening_of helds) result) }
     ensures fits { IfOk result OpenedFits }
     ensures told { IfOk result (λ opened. HoldWhole D.told opened.layout drives.new) }
+    ensures told_err { IfErr result (RefusedTold D.told drives.old drives.new) }
     ensures counts { OpeningCounts D.faults drives.old drives.new result }
 
     ensures keeps { Keeps D.held D.room D.faults drives.old drives.new }

@@ -6,13 +6,18 @@ pub record Page : Type 0 where
   pub number : ℕ
   pub bytes : List ℕ
 
--- The buffer has no page, or one of the image's pages: `pages` has the bytes of each page, in order.
-abbrev pub FitsImage : List (List ℕ) → Page → Type 0
-FitsImage pages page = (page.number ≡ NO_PAGE) ⊎ (slice_get pages page.number ≡ Some page.bytes)
+-- these are the bytes of the image's page with this number; of an image that isn't told nothing is asked
+abbrev pub IsPageOf : Option (List (List ℕ)) → ℕ → List ℕ → Type 0
+IsPageOf None number bytes = Unit {0}
+IsPageOf (Some pages) number bytes = slice_get pages number ≡ Some bytes
 
--- a page that is shown, beside the pages of its frame's image
+-- The buffer has no page, or one of the image's pages. `image` has the bytes of each page, in order, where they are told.
+abbrev pub FitsImage : Option (List (List ℕ)) → Page → Type 0
+FitsImage image page = (page.number ≡ NO_PAGE) ⊎ IsPageOf image page.number page.bytes
+
+-- a page that is shown, beside the pages of its frame's image, where they are told
 pub record View : Type 0 where
-  pub image : List (List ℕ)
+  pub image : Option (List (List ℕ))
   pub page : Page
 
 -- the page of a slot that holds one

@@ -17,7 +17,7 @@ impl Fits for PageBuf {
     ghost fits = { λ name buf. FitsImage name.pages buf };
 }
 
-/// A page in place. Contracts see the frame as the pages of its image.
+/// A page in place. Contracts see the frame as the pages of its image, where they are told.
 ///
 /// The word of the slot says that a page is present and counts those that are shown it. A swap takes the place only
 /// where that count is 0.
@@ -27,9 +27,9 @@ pub struct Frame {
 }
 
 impl Model for Frame {
-    ghost use Rattle.std.specs.Prelude.{List, ℕ};
+    ghost use Rattle.std.specs.Prelude.{List, Option, ℕ};
 
-    ghost Value = { List (List ℕ) };
+    ghost Value = { Option (List (List ℕ)) };
 
     ghost view = { λ f. f.slot.pages };
 }

@@ -1,27 +1,29 @@
-//! The name of a frame: the pages of an image, as contracts see them.
-ghost use Rattle.std.specs.Prelude.{◌≡◌, ℕ, List};
+//! The name of a frame: the pages of an image, as contracts see them, where they are told.
+ghost use Rattle.std.specs.Prelude.{◌≡◌, ℕ, List, Option};
+ghost use Rattle.std.specs.Coded.{coded_option};
 ghost use base.Fml.{ftrue};
 ghost use base.Stored.{coded_list, coded_ℕ};
 
 use std::marker::{Brand, Model, PhantomData};
 
-/// The bytes of each page of an image, in order. They are no value of the program: the proof of a call picks them.
+/// The bytes of each page of an image, in order, or none where the image stands on drives that don't tell what they
+/// hold. They are no value of the program: the proof of a call picks them.
 pub trait Image {
-    ghost use Rattle.std.specs.Prelude.{ℕ, List};
+    ghost use Rattle.std.specs.Prelude.{ℕ, List, Option};
 
-    ghost pages: { List (List ℕ) };
+    ghost pages: { Option (List (List ℕ)) };
 }
 
 impl Image for Brand {
-    ghost use Rattle.std.specs.Prelude.{[]};
+    ghost use Rattle.std.specs.Prelude.{None};
 
-    ghost pages = { [] };
+    ghost pages = { None };
 }
 
-/// The pages of an image. It has no bytes.
+/// The pages of an image, where they are told. It has no bytes.
 pub struct ImageName {
     marker: PhantomData<()>,
-    pub ghost pages: { List (List ℕ) } by { coded_list (coded_list coded_ℕ) },
+    pub ghost pages: { Option (List (List ℕ)) } by { coded_option (coded_list (coded_list coded_ℕ)) },
 }
 
 impl Model for ImageName {

@@ -60,14 +60,14 @@ impl<V: Fit> Named<V> {
         unreachable!()
     }
 
-    /// Gives back a value that was taken from this lock. Only who has it can, so the place is there at once.
+    /// Gives a value back to the lock that it was taken from, which the value knows: of two locks with one name the
+    /// right one, whichever is named here. Only who has the value can, so the place is there at once.
     pub fn give<R: Wait>(&self, rt: &R, held: Held<'_, V>)
-        requires name { held.name ≡ self.now }
-        requires fits { V.fits self.now held.value }
+        requires { V.fits held.name held.value }
     {
-        let Held { lock: _, value } = held;
+        let Held { lock, value } = held;
         for _ in rt.forever() {
-            let (found, claim) = self.slot.turn(PRESENT, TAKEN);
+            let (found, claim) = lock.slot.turn(PRESENT, TAKEN);
             if found == PRESENT {
                 return nothing(rt, claim.put(Veiled::new(Some(value)), FREE).into_inner());
             }

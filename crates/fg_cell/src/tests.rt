@@ -43,11 +43,7 @@ fn count_often<R: Wait>(rt: &R, lock: &Named<Count>) {
 fn counted_by_two<R: Threads + Wait + Sync>(rt: &R) -> u64
     ensures { 5 ≤ result }
 {
-    let count = Count {
-        sum: 5,
-        _unshared: Cell::new(0),
-    };
-    let lock = Named::new(count, 5);
+    let lock = Named::new(count_of(5), 5);
     join(rt, || count_often(rt, &lock), || count_often(rt, &lock));
     lock.into_inner(rt).sum
 }
@@ -55,6 +51,26 @@ fn counted_by_two<R: Threads + Wait + Sync>(rt: &R) -> u64
 #[test]
 fn two_threads_count_under_one_lock(rt: HostRuntime) {
     assert_eq!(rt; counted_by_two(&rt), 5 + 2 * u64::from(TIMES));
+}
+
+fn count_of(sum: u64) -> Count
+    ensures { result.sum ≡ sum }
+{
+    Count {
+        sum,
+        _unshared: Cell::new(0),
+    }
+}
+
+// Two locks of one name: what was taken from the first is given back through the second.
+#[test]
+fn a_value_goes_back_to_its_own_lock(rt: HostRuntime) {
+    let first = Named::new(count_of(6), 5);
+    let second = Named::new(count_of(7), 5);
+    second.give(&rt, first.take(&rt));
+    first.give(&rt, first.take(&rt));
+    let sums = (first.into_inner(&rt).sum, second.into_inner(&rt).sum);
+    assert_eq!(rt; sums, (6, 7));
 }
 
 fn filled(alloc: Global, page: u32, byte: u8) -> Result<PageBuf, Memory>
@@ -139,6 +155,17 @@ fn a_swap_gives_back_the_page_that_was_there(rt: HostRuntime) -> Result<(), Fail
     let shown = frame.pin(&rt);
     let page = shown.page();
     assert_eq!(rt; (page.number(), page.bytes()[4095]), (1, 9));
+    frame.leave(shown);
+    Ok(())
+}
+
+// An image of which nothing is told takes every page.
+#[test]
+fn a_frame_of_an_untold_image_shows_what_was_put_in(rt: HostRuntime) -> Result<(), Fail> {
+    let frame = Frame::new(filled(rt.alloc(), 3, 7)?, ImageName::of::<Brand>());
+    let old = frame.swap(&rt, filled(rt.alloc(), 3, 9)?);
+    let shown = frame.pin(&rt);
+    assert_eq!(rt; (old.bytes()[0], shown.page().bytes()[0]), (7, 9));
     frame.leave(shown);
     Ok(())
 }

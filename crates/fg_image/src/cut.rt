@@ -30,7 +30,7 @@ pub fn entry_at(weighted: bool, bytes: &[u8], place: usize) -> Entry
 }
 
 /// The bytes of an entry.
-pub(crate) fn entry_bytes(weighted: bool) -> usize
+pub fn entry_bytes(weighted: bool) -> usize
     ensures size { result ≡ entry_bytes weighted }
     ensures few { result ≤ 8 }
 {
@@ -57,7 +57,7 @@ fn cut_list(
 }
 
 /// The page at which the lists of a direction begin.
-fn first_page_of(layout: &Layout, dir: Dir) -> u32
+pub fn first_page_of(layout: &Layout, dir: Dir) -> u32
     ensures { result ≡ first_page_of layout.now dir }
 {
     match dir {

@@ -15,6 +15,6 @@ mod tally;
 #[cfg(test)]
 mod tests;
 
-pub use cut::{cut_graph, entry_at, graph_of};
+pub use cut::{cut_graph, entry_at, entry_bytes, first_page_of, graph_of};
 pub use header::Header;
 pub use making::{image_pages, make_image};

@@ -16,14 +16,15 @@ use Rattle.fg_base.specs.declared.plain.VState.{VState}
 use Rattle.fg_base.specs.declared.plain.Need.{Need}
 use Rattle.fg_model.specs.declared.graph.Graph.{Graph}
 use Rattle.fg_model.specs.declared.plain.Active.{Active}
+use Rattle.fg_model.specs.declared.mail.Mail.{Mail}
 use Rattle.fg_model.specs.Graph.{row}
 use Rattle.fg_model.specs.Iteration.{folded, is_bad, sent_to, state_at}
 use Rattle.fg_model.specs.Program.{Rules}
-use Rattle.fg_model.specs.VertexRun.{Message, edges_from, edges_of, message_along}
+use Rattle.fg_model.specs.VertexRun.{edges_from, edges_of, message_along}
 use Rattle.fg_model.specs.Plain.{sent_from}
 
 -- `folded` of the states from the vertex k on
-abbrev pub folded_from : ℕ → Rules → List Message → List VState → List VState
+abbrev pub folded_from : ℕ → Rules → List Mail → List VState → List VState
 folded_from k P messages states = map (λ (v, s). fold P.receive s (sent_to v messages)) (enumerate_from k states)
 
 test_same : (x y : ℕ) → x ≡ y → (x == y) ≡ true
@@ -32,38 +33,38 @@ test_same x y is = grind (arith, nat_tests)
 test_other : (x y : ℕ) → x ≢ y → (x == y) ≡ false
 test_other x y is = grind (arith, nat_tests)
 
-sent_to-same : (v : ℕ) (message : Message) (messages : List Message) → message.target ≡ v → sent_to v (message ∷ messages) ≡ message.value ∷ sent_to v messages
+sent_to-same : (v : ℕ) (message : Mail) (messages : List Mail) → message.target ≡ v → sent_to v (message ∷ messages) ≡ message.message ∷ sent_to v messages
 sent_to-same v message messages is = rw (test_same message.target v is) refl
 
-sent_to-other : (v : ℕ) (message : Message) (messages : List Message) → message.target ≢ v → sent_to v (message ∷ messages) ≡ sent_to v messages
+sent_to-other : (v : ℕ) (message : Mail) (messages : List Mail) → message.target ≢ v → sent_to v (message ∷ messages) ≡ sent_to v messages
 sent_to-other v message messages is = rw (test_other message.target v is) refl
 
-sent_to-append : (v : ℕ) (first next : List Message) → sent_to v (first ++ next) ≡ sent_to v first ++ sent_to v next
+sent_to-append : (v : ℕ) (first next : List Mail) → sent_to v (first ++ next) ≡ sent_to v first ++ sent_to v next
 sent_to-append v first next =
-    ap (map (λ (message : Message). message.value)) (filter-append (λ (message : Message). message.target == v) first next)
-    ∙ map-append (λ (message : Message). message.value) (filter (λ (message : Message). message.target == v) first) (filter (λ (message : Message). message.target == v) next)
+    ap (map (λ (message : Mail). message.message)) (filter-append (λ (message : Mail). message.target == v) first next)
+    ∙ map-append (λ (message : Mail). message.message) (filter (λ (message : Mail). message.target == v) first) (filter (λ (message : Mail). message.target == v) next)
 
 from-nil : (k : ℕ) (P : Rules) (states : List VState) → folded_from k P [] states ≡ states
 from-nil k P [] = refl
 from-nil k P (s ∷ states) = ap (λ (rest : List VState). s ∷ rest) (from-nil (k + 1) P states)
 
-from-past : (k : ℕ) (P : Rules) (message : Message) (messages : List Message) (states : List VState) → message.target < k → folded_from k P (message ∷ messages) states ≡ folded_from k P messages states
+from-past : (k : ℕ) (P : Rules) (message : Mail) (messages : List Mail) (states : List VState) → message.target < k → folded_from k P (message ∷ messages) states ≡ folded_from k P messages states
 from-past k P message messages [] past = refl
 from-past k P message messages (s ∷ states) past =
     ap (λ (xs : List ℕ). fold P.receive s xs ∷ folded_from (k + 1) P (message ∷ messages) states) (sent_to-other k message messages (λ is. omega arith))
     ∙ ap (λ (rest : List VState). fold P.receive s (sent_to k messages) ∷ rest) (from-past (k + 1) P message messages states (omega arith))
 
-from-cons : (k j : ℕ) (P : Rules) (message : Message) (messages : List Message) (states : List VState) → message.target ≡ k + j → j < length states
-    → folded_from k P (message ∷ messages) states ≡ folded_from k P messages (set states j (P.receive (state_at states j) message.value))
+from-cons : (k j : ℕ) (P : Rules) (message : Mail) (messages : List Mail) (states : List VState) → message.target ≡ k + j → j < length states
+    → folded_from k P (message ∷ messages) states ≡ folded_from k P messages (set states j (P.receive (state_at states j) message.message))
 from-cons k j P message messages [] is below = absurd (omega arith)
 from-cons k zero P message messages (s ∷ states) is below =
     ap (λ (xs : List ℕ). fold P.receive s xs ∷ folded_from (k + 1) P (message ∷ messages) states) (sent_to-same k message messages (omega arith))
-    ∙ ap (λ (rest : List VState). fold P.receive (P.receive s message.value) (sent_to k messages) ∷ rest) (from-past (k + 1) P message messages states (omega arith))
+    ∙ ap (λ (rest : List VState). fold P.receive (P.receive s message.message) (sent_to k messages) ∷ rest) (from-past (k + 1) P message messages states (omega arith))
 from-cons k (suc j) P message messages (s ∷ states) is below =
     ap (λ (xs : List ℕ). fold P.receive s xs ∷ folded_from (k + 1) P (message ∷ messages) states) (sent_to-other k message messages (λ same. omega arith))
     ∙ ap (λ (rest : List VState). fold P.receive s (sent_to k messages) ∷ rest) (from-cons (k + 1) j P message messages states (omega arith) (omega arith))
 
-from-append : (k : ℕ) (P : Rules) (first next : List Message) (states : List VState) → folded_from k P (first ++ next) states ≡ folded_from k P next (folded_from k P first states)
+from-append : (k : ℕ) (P : Rules) (first next : List Mail) (states : List VState) → folded_from k P (first ++ next) states ≡ folded_from k P next (folded_from k P first states)
 from-append k P first next [] = refl
 from-append k P first next (s ∷ states) =
     ap (λ (xs : List ℕ). fold P.receive s xs ∷ folded_from (k + 1) P (first ++ next) states) (sent_to-append k first next)
@@ -76,17 +77,17 @@ unfolding folded
 folded-nil P states = from-nil 0 P states
 
 -- the first message can be folded in by itself
-pub folded-cons : (P : Rules) (message : Message) (messages : List Message) (states : List VState) → message.target < length states
-    → folded P (message ∷ messages) states ≡ folded P messages (set states message.target (P.receive (state_at states message.target) message.value))
+pub folded-cons : (P : Rules) (message : Mail) (messages : List Mail) (states : List VState) → message.target < length states
+    → folded P (message ∷ messages) states ≡ folded P messages (set states message.target (P.receive (state_at states message.target) message.message))
 unfolding folded
 folded-cons P message messages states below = from-cons 0 message.target P message messages states (omega arith) below
 
 -- mail can be folded part by part
-pub folded-append : (P : Rules) (first next : List Message) (states : List VState) → folded P (first ++ next) states ≡ folded P next (folded P first states)
+pub folded-append : (P : Rules) (first next : List Mail) (states : List VState) → folded P (first ++ next) states ≡ folded P next (folded P first states)
 unfolding folded
 folded-append P first next states = from-append 0 P first next states
 
-pub length-folded : (P : Rules) (messages : List Message) (states : List VState) → length (folded P messages states) ≡ length states
+pub length-folded : (P : Rules) (messages : List Mail) (states : List VState) → length (folded P messages states) ≡ length states
 unfolding folded
 length-folded P messages states = length-map (enumerate_from 0 states) (λ (v, s). fold P.receive s (sent_to v messages)) ∙ length-enumerate_from 0 states
 

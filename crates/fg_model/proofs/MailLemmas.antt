@@ -7,7 +7,7 @@ use Rattle.std.proofs.lemmas.List.Sorted.{IsPermutation-keeps}
 use Rattle.fg_base.specs.declared.plain.VState.{VState}
 use Rattle.fg_model.specs.Iteration.{folded, sent_to}
 use Rattle.fg_model.specs.Program.{IsInRange, IsLawful, Rules}
-use Rattle.fg_model.specs.VertexRun.{Message}
+use Rattle.fg_model.specs.declared.mail.Mail.{Mail}
 use Rattle.fg_model.proofs.IterationLemmas.{folded_from}
 
 all_behind : {X : Type 0} (P : X → Type 0) (x : X) (xs : List X) → All P (x ∷ xs) → All P xs
@@ -64,46 +64,46 @@ module _ {S X : Type 0} (f : S → X → S) (Fits : S → Type 0) (Goes : X → 
       ys is).1
 
 -- what one message does to the vertex v
-abbrev step_at : Rules → ℕ → VState → Message → VState
-step_at P v s message = if message.target == v then P.receive s message.value else s
+abbrev step_at : Rules → ℕ → VState → Mail → VState
+step_at P v s message = if message.target == v then P.receive s message.message else s
 
 -- the fold of a vertex's mail goes over all mail
-fold-sent_to : (P : Rules) (v : ℕ) (s : VState) (mail : List Message) → fold P.receive s (sent_to v mail) ≡ fold (step_at P v) s mail
+fold-sent_to : (P : Rules) (v : ℕ) (s : VState) (mail : List Mail) → fold P.receive s (sent_to v mail) ≡ fold (step_at P v) s mail
 fold-sent_to P v s [] = refl
 fold-sent_to P v s (message ∷ mail) = by_test (message.target == v) refl (λ t. fold-sent_to P v t mail)
   where
     by_test : (test : Bool) → (message.target == v) ≡ test → ((t : VState) → fold P.receive t (sent_to v mail) ≡ fold (step_at P v) t mail)
         → fold P.receive s (sent_to v (message ∷ mail)) ≡ fold (step_at P v) s (message ∷ mail)
-    by_test true is rest = rw is (rest (P.receive s message.value))
+    by_test true is rest = rw is (rest (P.receive s message.message))
     by_test false is rest = rw is (rest s)
 
-step_fits : (P : Rules) → IsLawful P → (v : ℕ) (s : VState) (message : Message) → IsInRange s → message.value < 2 ^ 64 → IsInRange (step_at P v s message)
+step_fits : (P : Rules) → IsLawful P → (v : ℕ) (s : VState) (message : Mail) → IsInRange s → message.message < 2 ^ 64 → IsInRange (step_at P v s message)
 step_fits P lawful v s message s_fits fits = by_test (message.target == v)
   where
-    by_test : (test : Bool) → IsInRange (if test then P.receive s message.value else s)
-    by_test true = lawful.receive_fits s message.value s_fits fits
+    by_test : (test : Bool) → IsInRange (if test then P.receive s message.message else s)
+    by_test true = lawful.receive_fits s message.message s_fits fits
     by_test false = s_fits
 
-step_order : (P : Rules) → IsLawful P → (v : ℕ) (s : VState) (one other : Message) → IsInRange s → one.value < 2 ^ 64 → other.value < 2 ^ 64
+step_order : (P : Rules) → IsLawful P → (v : ℕ) (s : VState) (one other : Mail) → IsInRange s → one.message < 2 ^ 64 → other.message < 2 ^ 64
     → step_at P v (step_at P v s one) other ≡ step_at P v (step_at P v s other) one
 step_order P lawful v s one other s_fits one_fits other_fits = by_test (one.target == v) (other.target == v)
   where
     by_test : (first next : Bool)
-        → (let t = if first then P.receive s one.value else s in if next then P.receive t other.value else t)
-        ≡ (let t = if next then P.receive s other.value else s in if first then P.receive t one.value else t)
-    by_test true true = lawful.order s one.value other.value s_fits one_fits other_fits
+        → (let t = if first then P.receive s one.message else s in if next then P.receive t other.message else t)
+        ≡ (let t = if next then P.receive s other.message else s in if first then P.receive t one.message else t)
+    by_test true true = lawful.order s one.message other.message s_fits one_fits other_fits
     by_test true false = refl
     by_test false true = refl
     by_test false false = refl
 
-vertex_in_any_order : (P : Rules) → IsLawful P → (v : ℕ) (mail other : List Message) → IsPermutation mail other → All (λ (message : Message). message.value < 2 ^ 64) mail
+vertex_in_any_order : (P : Rules) → IsLawful P → (v : ℕ) (mail other : List Mail) → IsPermutation mail other → All (λ (message : Mail). message.message < 2 ^ 64) mail
     → (s : VState) → IsInRange s → fold P.receive s (sent_to v mail) ≡ fold P.receive s (sent_to v other)
 vertex_in_any_order P lawful v mail other is fit s s_fits =
     fold-sent_to P v s mail
-    ∙ fold-permutation (step_at P v) IsInRange (λ (message : Message). message.value < 2 ^ 64) (step_fits P lawful v) (step_order P lawful v) mail other is fit s s_fits
+    ∙ fold-permutation (step_at P v) IsInRange (λ (message : Mail). message.message < 2 ^ 64) (step_fits P lawful v) (step_order P lawful v) mail other is fit s s_fits
     ∙ sym (fold-sent_to P v s other)
 
-from_in_any_order : (k : ℕ) (P : Rules) → IsLawful P → (mail other : List Message) → IsPermutation mail other → All (λ (message : Message). message.value < 2 ^ 64) mail
+from_in_any_order : (k : ℕ) (P : Rules) → IsLawful P → (mail other : List Mail) → IsPermutation mail other → All (λ (message : Mail). message.message < 2 ^ 64) mail
     → (states : List VState) → All IsInRange states → folded_from k P mail states ≡ folded_from k P other states
 from_in_any_order k P lawful mail other is fit [] all_fit = refl
 from_in_any_order k P lawful mail other is fit (s ∷ states) all_fit =
@@ -111,7 +111,7 @@ from_in_any_order k P lawful mail other is fit (s ∷ states) all_fit =
     ∙ ap (λ (rest : List VState). fold P.receive s (sent_to k other) ∷ rest) (from_in_any_order (k + 1) P lawful mail other is fit states (all_behind IsInRange s states all_fit))
 
 -- the same mail in any order is folded to the same states
-pub folded-permutation : (P : Rules) → IsLawful P → (mail other : List Message) → IsPermutation mail other → All (λ (message : Message). message.value < 2 ^ 64) mail
+pub folded-permutation : (P : Rules) → IsLawful P → (mail other : List Mail) → IsPermutation mail other → All (λ (message : Mail). message.message < 2 ^ 64) mail
     → (states : List VState) → All IsInRange states → folded P mail states ≡ folded P other states
 unfolding folded
 folded-permutation P lawful mail other is fit states all_fit = from_in_any_order 0 P lawful mail other is fit states all_fit

@@ -1,5 +1,5 @@
 -- The run in memory: vertex by vertex, it makes the iteration of the definition.
-use Rattle.std.proofs.Common.{◌≡◌, ℕ, zero, suc, ◌+◌, ◌<◌, ◌≤◌, ◌^◌, Bool, true, false, cond, None, Some, List, [], ◌∷◌, ◌++◌, length, map, get_or, drop, take, refl, ap, sym, ◌∙◌, arith}
+use Rattle.std.proofs.Common.{◌≡◌, ℕ, zero, suc, ◌+◌, ◌-◌, ◌<◌, ◌≤◌, ◌^◌, Bool, true, false, cond, None, Some, List, [], ◌∷◌, ◌++◌, length, map, get_or, drop, take, refl, ap, sym, ◌∙◌, arith}
 use Rattle.std.specs.Prelude.{◌==◌, All, filter, find, fold, if◌then◌else◌, sum_by}
 use Rattle.std.specs.List.{enumerate_from, flat_map, range_with_len}
 use Rattle.std.proofs.Math.Seq.{take-append_seam}
@@ -16,12 +16,13 @@ use Rattle.fg_base.specs.declared.plain.VState.{VState}
 use Rattle.fg_model.specs.declared.graph.Graph.{Graph}
 use Rattle.fg_model.specs.declared.iteration.Iteration.{Iteration}
 use Rattle.fg_model.specs.declared.plain.Active.{Active}
+use Rattle.fg_model.specs.declared.mail.Mail.{Mail}
 use Rattle.fg_model.specs.Graph.{IsEntryOf, IsSide, IsWithinLimits, row}
 use Rattle.fg_model.specs.Iteration.{AreStates, IsIteration, active_vertices, after, begun_at, first_bad, folded, is_bad, mail, needed, own_state, sent_to, state_at, states_after_runs}
 use Rattle.fg_model.specs.Plain.{active_at, all_active, edges_over, messages_over, sent_from}
 use Rattle.fg_model.specs.Program.{IsInRange, IsLawful, Rules}
 use Rattle.fg_model.specs.Run.{opening_states}
-use Rattle.fg_model.specs.VertexRun.{Message, edges_from, edges_of, message_along, over_lists, ran}
+use Rattle.fg_model.specs.VertexRun.{edges_from, edges_of, message_along, over_lists, ran}
 use Rattle.fg_model.proofs.IterationLemmas.{find-front, find-skip, folded-append, folded-nil, length-edges_from, length-folded}
 
 -- the active vertices from one on
@@ -70,11 +71,11 @@ over_none n need graph active i done = ap (find (is_bad n)) (edges_over-end need
 pub over_folded : (P : Rules) (need : Need) (graph : Graph) (active : List Active) (i : ℕ) (states : List VState) → i < length active
     → folded P (messages_over P need graph (drop i active)) states ≡ folded P (messages_over P need graph (drop (i + 1) active)) (folded P (sent_from P need graph (ran_at active i)) states)
 over_folded P need graph active i states below =
-    ap (λ (messages : List Message). folded P messages states) (messages_over-more P need graph active i below)
+    ap (λ (messages : List Mail). folded P messages states) (messages_over-more P need graph active i below)
     ∙ folded-append P (sent_from P need graph (ran_at active i)) (messages_over P need graph (drop (i + 1) active)) states
 
 pub over_all : (P : Rules) (need : Need) (graph : Graph) (active : List Active) (i : ℕ) (states : List VState) → length active ≤ i → folded P (messages_over P need graph (drop i active)) states ≡ states
-over_all P need graph active i states done = ap (λ (messages : List Message). folded P messages states) (messages_over-end P need graph active i done) ∙ folded-nil P states
+over_all P need graph active i states done = ap (λ (messages : List Mail). folded P messages states) (messages_over-end P need graph active i done) ∙ folded-nil P states
 
 -- the states after the runs, and the active vertices, from the vertex k on
 abbrev pub runs_from : ℕ → Rules → ℕ → List VState → List VState
@@ -134,6 +135,16 @@ active-asleep P phase k left more states active some asleep = ap (λ (xs : List 
 
 pub active-end : (P : Rules) (phase k left : ℕ) (states : List VState) (active : List Active) → left ≡ 0 → active ++ active_from k left P phase states ≡ active
 active-end P phase k left states active none = rw none (append-nil active)
+
+-- an active vertex is one of all that the iteration has
+pub awake_counted : (P : Rules) (phase k : ℕ) (states : List VState) (active : List Active) → k < length states → P.wake phase (state_at states k) ≡ true
+    → active ++ active_from k (length states - k) P phase states ≡ all_active P phase states → length active + 1 ≤ length (all_active P phase states)
+awake_counted P phase k states active below awake are =
+    let more = length states - (k + 1) in
+    let next = active ++ active_at P phase states k ∷ [] in
+    let rest = active_from (k + 1) more P phase states in
+    let whole : next ++ rest ≡ all_active P phase states = sym (active-awake P phase k (length states - k) more states active (omega arith) awake) ∙ are in
+    omega (arith, ap (λ (xs : List Active). length xs) whole, length-append next rest, length-append active (active_at P phase states k ∷ []))
 
 -- what the run in memory delivers is what the definition says
 pub edges_are_needed : (P : Rules) (graph : Graph) (phase : ℕ) (states : List VState) → edges_over P.need graph (all_active P phase states) ≡ needed P graph phase states
@@ -253,8 +264,8 @@ runs_fit k P phase (s ∷ states) lawful phase_fits k_fits all =
     All-cons IsInRange (own_state P phase k s) (runs_from (k + 1) P phase states) (own_fits P phase k s (P.wake phase s) lawful phase_fits (omega arith) (All-head IsInRange s states all) refl)
     (runs_fit (k + 1) P phase states lawful phase_fits (omega arith) (All-tail IsInRange s states all))
 
-abbrev pub MailFits : Message → Type 0
-MailFits message = message.value < 2 ^ 64
+abbrev pub MailFits : Mail → Type 0
+MailFits message = message.message < 2 ^ 64
 
 along_fits : (P : Rules) (carry : ℕ) (dir : Dir) (weighted : Bool) (entries : List Entry) → IsLawful P → carry < 2 ^ 64 → All (IsEntryOf weighted) entries → All MailFits (map (message_along P carry dir) entries)
 along_fits P carry dir weighted entries lawful carry_fits all =
@@ -289,20 +300,20 @@ fold_fits P s [] lawful s_fits all = s_fits
 fold_fits P s (m ∷ values) lawful s_fits all =
     fold_fits P (P.receive s m) values lawful (lawful.receive_fits s m s_fits (All-head (λ m. m < 2 ^ 64) m values all)) (All-tail (λ m. m < 2 ^ 64) m values all)
 
-sent_to_fits : (v : ℕ) (messages : List Message) → All MailFits messages → All (λ m. m < 2 ^ 64) (sent_to v messages)
+sent_to_fits : (v : ℕ) (messages : List Mail) → All MailFits messages → All (λ m. m < 2 ^ 64) (sent_to v messages)
 sent_to_fits v messages all =
-    All-map (λ m. m < 2 ^ 64) (λ (message : Message). message.value) (filter (λ message. message.target == v) messages)
-    (All-weaker (λ (message : Message). MailFits message × ((message.target == v) ≡ true)) MailFits (λ message both. both.0) (filter (λ message. message.target == v) messages)
+    All-map (λ m. m < 2 ^ 64) (λ (message : Mail). message.message) (filter (λ message. message.target == v) messages)
+    (All-weaker (λ (message : Mail). MailFits message × ((message.target == v) ≡ true)) MailFits (λ message both. both.0) (filter (λ message. message.target == v) messages)
     (All-filter MailFits (λ message. message.target == v) messages all))
 
-from_fits : (k : ℕ) (P : Rules) (messages : List Message) (states : List VState) → IsLawful P → All MailFits messages → All IsInRange states → All IsInRange (map (λ (v, s). fold P.receive s (sent_to v messages)) (enumerate_from k states))
+from_fits : (k : ℕ) (P : Rules) (messages : List Mail) (states : List VState) → IsLawful P → All MailFits messages → All IsInRange states → All IsInRange (map (λ (v, s). fold P.receive s (sent_to v messages)) (enumerate_from k states))
 from_fits k P messages [] lawful mail_all all = All-nil IsInRange
 from_fits k P messages (s ∷ states) lawful mail_all all =
     All-cons IsInRange (fold P.receive s (sent_to k messages)) (map (λ (v, s). fold P.receive s (sent_to v messages)) (enumerate_from (k + 1) states))
     (fold_fits P s (sent_to k messages) lawful (All-head IsInRange s states all) (sent_to_fits k messages mail_all))
     (from_fits (k + 1) P messages states lawful mail_all (All-tail IsInRange s states all))
 
-pub folded_fits : (P : Rules) (messages : List Message) (states : List VState) → IsLawful P → All MailFits messages → All IsInRange states → All IsInRange (folded P messages states)
+pub folded_fits : (P : Rules) (messages : List Mail) (states : List VState) → IsLawful P → All MailFits messages → All IsInRange states → All IsInRange (folded P messages states)
 unfolding folded
 folded_fits P messages states lawful mail_all all = from_fits 0 P messages states lawful mail_all all
 
@@ -370,7 +381,7 @@ pub plain_folded : (P : Rules) (graph : Graph) (phase : ℕ) (states : List VSta
 plain_folded P graph phase states need active next new is_need is_active is_next is_new =
     is_new ∙ ap (λ (n : Need). folded P (messages_over P n graph active) next) is_need ∙ ap (λ (xs : List Active). folded P (messages_over P P.need graph xs) next) is_active
     ∙ ap (folded P (messages_over P P.need graph (all_active P phase states))) is_next
-    ∙ ap (λ (messages : List Message). folded P messages (states_after_runs P phase states)) (messages_are_mail P graph phase states)
+    ∙ ap (λ (messages : List Mail). folded P messages (states_after_runs P phase states)) (messages_are_mail P graph phase states)
 
 -- a whole vector written through its slice
 pub written : (n : ℕ) (new rest : List VState) → n ≡ length new → take n (new ++ rest) ≡ new

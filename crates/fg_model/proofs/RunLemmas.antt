@@ -1,9 +1,9 @@
 -- A run, step by step: what is said of it once so many iterations are finished.
 use Rattle.std.proofs.Common.{◌≡◌, ℕ, zero, suc, ◌+◌, ◌-◌, ◌<◌, ◌≤◌, Option, None, Some, Result, Ok, List, [], ◌∷◌, ◌++◌, length, take, drop, map, refl, ap, sym, subst, ◌∙◌, arith, lit<}
-use Rattle.std.specs.Prelude.{Contains}
+use Rattle.std.specs.Prelude.{Contains, sum_by}
 use Rattle.std.proofs.lemmas.List.{append-nil, append_assoc, length-append, map-append}
 use Rattle.std.proofs.lemmas.List.Elements.{Contains-append_left, Contains-append_right}
-use Rattle.std.proofs.lemmas.List.Sums.{sum_by-append}
+use Rattle.std.proofs.lemmas.List.Sums.{sum_by-append, sum_by-cons}
 use Rattle.std.proofs.lemmas.Grind.{flat_map-append}
 use Rattle.std.proofs.Math.Seq.{take-append_seam, drop-append_seam}
 use Rattle.fg_base.specs.declared.plain.BadEdge.{BadEdge}
@@ -16,14 +16,19 @@ use Rattle.fg_model.specs.declared.run.RunFault.{RunFault}
 use Rattle.fg_model.specs.declared.stand.Stand.{Stand}
 use Rattle.fg_model.specs.declared.stand.Stand.TheVariants.{Begins, Rests}
 use Rattle.fg_model.specs.declared.watch.IterLine.{IterLine}
+use Rattle.fg_model.specs.declared.iteration.Counts.{Counts}
 use Rattle.fg_model.specs.declared.iteration.Iteration.{Iteration}
 use Rattle.fg_model.specs.declared.iteration.IterFault.{IterFault}
 use Rattle.fg_model.specs.declared.iteration.IterFault.TheVariants as Iter
-use Rattle.fg_model.specs.Engine.{IsFirstOf, MatchIterFault, MatchRunFault, run_fault_of}
+use Rattle.fg_model.specs.Engine.{HasCounted, IsFirstOf, MatchIterFault, RoseUpTo, RoseWith, TallyRoseWith, run_fault_of}
 use Rattle.fg_model.specs.Iteration.{Begun, IsIteration, after, begun_at, first_bad}
 use Rattle.fg_model.specs.Program.{Rules}
 use Rattle.fg_model.specs.Run.{Ending, Settled, Stopped, Refused, Finished, Run, answer_at, answer_of, begun_last, begun_of, ended, entries_of, last_end, led, opening_states, run, run_from, runs_of, stand}
 use Rattle.fg_model.specs.Watch.{Grew, ShownAll, ShownPart, ShownSome, line_at, line_of, told_of}
+
+-- the counts of a finished iteration
+abbrev pub counts_of : Iteration → Counts
+counts_of iteration = record { active = iteration.active; messages = iteration.messages }
 
 -- one iteration, finished
 abbrev pub finished_at : Rules → Graph → ℕ → ℕ → List VState → Finished
@@ -117,6 +122,11 @@ begun_led : (done : List Finished) (run : Run) → begun_of (led done run) ≡ b
 unfolding begun_of led
 begun_led done run = ap (λ (xs : List Begun). xs ++ begun_last run.ending) (map-append (λ (finished : Finished). finished.begun) done run.finished) ∙ append_assoc (begun_in done) (begun_in run.finished) (begun_last run.ending)
 
+pub end_begun : (P : Rules) (graph : Graph) (most : ℕ) (done : List Finished) (ending : Ending) (number phase : ℕ) (states : List VState)
+    → EndsAt P graph most done ending number phase states → begun_of (run P graph most) ≡ begun_in done ++ begun_last ending
+unfolding begun_of
+end_begun P graph most done ending number phase states ends = ap begun_of ends.split ∙ begun_led done (ended ending number phase states)
+
 pub at_begun : (P : Rules) (graph : Graph) (most : ℕ) (done : List Finished) (number phase : ℕ) (states : List VState)
     → IsAt P graph most done number phase states → begun_of (run P graph most) ≡ begun_in done ++ begun_of (run_from P graph (most - number) number phase states)
 at_begun P graph most done number phase states is_at = ap begun_of is_at.split ∙ begun_led done (run_from P graph (most - number) number phase states)
@@ -155,14 +165,14 @@ known_opening P graph most told states old runs entries is = record {
 }
 
 line_is : (P : Rules) (graph : Graph) (number begins : ℕ) (states : List VState) (iteration : Iteration) → IsIteration P graph begins states iteration
-    → line_at number begins iteration ≡ line_of (finished_at P graph number begins states)
+    → line_at number begins (counts_of iteration) ≡ line_of (finished_at P graph number begins states)
 unfolding begun_at
 line_is P graph number begins states iteration is =
     ap (λ (active : ℕ). let l : IterLine = record { number = number; phase = begins; active = active; messages = iteration.messages } in l) is.active_count
     ∙ ap (λ (messages : ℕ). let l : IterLine = record { number = number; phase = begins; active = length (begun_at P graph begins states).active; messages = messages } in l) is.message_count
 
 told_one : {N : Type 0} (told : IterLine → List VState → List N) (P : Rules) (graph : Graph) (number begins : ℕ) (states : List VState) (iteration : Iteration) → IsIteration P graph begins states iteration
-    → told_of told (finished_at P graph number begins states ∷ []) ≡ told (line_at number begins iteration) iteration.states
+    → told_of told (finished_at P graph number begins states ∷ []) ≡ told (line_at number begins (counts_of iteration)) iteration.states
 unfolding told_of
 told_one told P graph number begins states iteration is =
     append-nil (told (line_of (finished_at P graph number begins states)) (after P graph begins states))
@@ -176,15 +186,15 @@ told-append told first next = flat_map-append (λ (iteration : Finished). told (
 pub known_next : {N : Type 0} (P : Rules) (graph : Graph) (most : ℕ) (told : IterLine → List VState → List N) (done : List Finished) (number phase begins : ℕ) (states : List VState) (iteration : Iteration) (old new newer : Option (List N)) (runs_old runs more_runs entries_old entries more_entries : ℕ)
     → Known P graph most told done number phase states old new runs_old runs entries_old entries
     → number < most → stand P phase states ≡ Begins begins → IsIteration P graph begins states iteration
-    → newer ≡ grown new (told (line_at number begins iteration) iteration.states)
+    → newer ≡ grown new (told (line_at number begins (counts_of iteration)) iteration.states)
     → more_runs ≡ runs + iteration.active → more_entries ≡ entries + iteration.messages
     → Known P graph most told (done ++ finished_at P graph number begins states ∷ []) (number + 1) begins iteration.states old newer runs_old more_runs entries_old more_entries
 known_next {N = N} P graph most told done number phase begins states iteration old new newer runs_old runs more_runs entries_old entries more_entries known below is is_iteration shown ran_more entries_more = record {
   is_at = let Q : List VState → Type 0 = λ s. IsAt P graph most (done ++ finished_at P graph number begins states ∷ []) (number + 1) begins s in
       subst Q (sym is_iteration.next_states) (at_next P graph most done number phase begins states known.is_at below is is_iteration.no_bad_edge);
   was_shown = shown
-      ∙ ap (λ (o : Option (List N)). grown o (told (line_at number begins iteration) iteration.states)) known.was_shown
-      ∙ grown-grown old (told_of told done) (told (line_at number begins iteration) iteration.states)
+      ∙ ap (λ (o : Option (List N)). grown o (told (line_at number begins (counts_of iteration)) iteration.states)) known.was_shown
+      ∙ grown-grown old (told_of told done) (told (line_at number begins (counts_of iteration)) iteration.states)
       ∙ ap (λ (xs : List N). grown old (told_of told done ++ xs)) (sym (told_one told P graph number begins states iteration is_iteration))
       ∙ ap (grown old) (sym (told-append told done (finished_at P graph number begins states ∷ [])));
   runs_grew = let e = sum_by-append (λ (f : Finished). length f.begun.active) done (finished_at P graph number begins states ∷ []) in
@@ -207,7 +217,7 @@ known_some P graph most told done number phase states old new runs_old runs entr
 pub known_part : {N : Type 0} (P : Rules) (graph : Graph) (most : ℕ) (told : IterLine → List VState → List N) (done : List Finished) (number phase begins : ℕ) (states : List VState) (iteration : Iteration) (old new newer : Option (List N)) (runs_old runs entries_old entries : ℕ)
     → Known P graph most told done number phase states old new runs_old runs entries_old entries
     → number < most → stand P phase states ≡ Begins begins → IsIteration P graph begins states iteration
-    → GrewByFirst (told (line_at number begins iteration) iteration.states) new newer
+    → GrewByFirst (told (line_at number begins (counts_of iteration)) iteration.states) new newer
     → ShownPart told (run P graph most).finished old newer
 known_part {N = N} P graph most told done number phase begins states iteration old new newer runs_old runs entries_old entries known below is is_iteration grew =
     let fin = finished_at P graph number begins states in
@@ -219,21 +229,22 @@ known_part {N = N} P graph most told done number phase begins states iteration o
     let behind : drop (length done) (run P graph most).finished ≡ fin ∷ rest = ap (drop (length done)) whole ∙ drop-append_seam done (fin ∷ rest) in
     let one : take 1 (drop (length done) (run P graph most).finished) ≡ fin ∷ [] = ap (take 1) behind in
     let longer : length done < length (run P graph most).finished = omega (arith, ap (λ (xs : List Finished). length xs) whole, length-append done (fin ∷ rest)) in
-    let told_next : told_of told (take 1 (drop (length done) (run P graph most).finished)) ≡ told (line_at number begins iteration) iteration.states =
+    let told_next : told_of told (take 1 (drop (length done) (run P graph most).finished)) ≡ told (line_at number begins (counts_of iteration)) iteration.states =
     ap (told_of told) one ∙ told_one told P graph number begins states iteration is_iteration in (
       length done,
       grew.0,
       longer,
       grew.1
-          ∙ ap (λ (o : Option (List N)). grown o (take grew.0 (told (line_at number begins iteration) iteration.states))) known.was_shown
-          ∙ grown-grown old (told_of told done) (take grew.0 (told (line_at number begins iteration) iteration.states))
+          ∙ ap (λ (o : Option (List N)). grown o (take grew.0 (told (line_at number begins (counts_of iteration)) iteration.states))) known.was_shown
+          ∙ grown-grown old (told_of told done) (take grew.0 (told (line_at number begins (counts_of iteration)) iteration.states))
           ∙ ap (λ (xs : List N). grown old (told_of told done ++ take grew.0 xs)) (sym told_next)
           ∙ ap (λ (d : List Finished). grown old (told_of told d ++ take grew.0 (told_of told (take 1 (drop (length done) (run P graph most).finished))))) (sym front),
     )
 
 -- at the run's end: everything
-pub record Over {N : Type 0} (P : Rules) (graph : Graph) (most : ℕ) (told : IterLine → List VState → List N) (done : List Finished) (answer : Result End RunFault) (old new : Option (List N)) (runs_old runs entries_old entries : ℕ) : Type 0 where
+pub record Over {N : Type 0} (P : Rules) (graph : Graph) (most : ℕ) (told : IterLine → List VState → List N) (done : List Finished) (answer : Result End RunFault) (last_begun : List Begun) (old new : Option (List N)) (runs_old runs entries_old entries : ℕ) : Type 0 where
   pub is_answer : answer_of (run P graph most) ≡ answer
+  pub all_begun : begun_of (run P graph most) ≡ begun_in done ++ last_begun
   pub was_shown : ShownAll told (run P graph most).finished old new
   pub runs_grew : runs ≡ runs_old + runs_of (run P graph most).finished
   pub entries_grew : entries ≡ entries_old + entries_of (run P graph most).finished
@@ -241,11 +252,12 @@ pub record Over {N : Type 0} (P : Rules) (graph : Graph) (most : ℕ) (told : It
 pub known_over : {N : Type 0} (P : Rules) (graph : Graph) (most : ℕ) (told : IterLine → List VState → List N) (done : List Finished) (number phase last : ℕ) (states : List VState) (ending : Ending) (old new : Option (List N)) (runs_old runs entries_old entries : ℕ)
     → Known P graph most told done number phase states old new runs_old runs entries_old entries
     → EndsAt P graph most done ending number last states
-    → Over P graph most told done (answer_at ending number last states) old new runs_old runs entries_old entries
+    → Over P graph most told done (answer_at ending number last states) (begun_last ending) old new runs_old runs entries_old entries
 known_over P graph most told done number phase last states ending old new runs_old runs entries_old entries known ends =
     let all = end_finished P graph most done ending number last states ends in
     record {
       is_answer = end_answer P graph most done ending number last states ends;
+      all_begun = end_begun P graph most done ending number last states ends;
       was_shown = known.was_shown ∙ ap (λ (d : List Finished). grown old (told_of told d)) (sym all);
       runs_grew = known.runs_grew ∙ ap (λ (d : List Finished). runs_old + runs_of d) (sym all);
       entries_grew = known.entries_grew ∙ ap (λ (d : List Finished). entries_old + entries_of d) (sym all);
@@ -254,7 +266,7 @@ known_over P graph most told done number phase last states ending old new runs_o
 -- with no iteration left it ends as it stands
 pub known_last : {N : Type 0} (P : Rules) (graph : Graph) (most : ℕ) (told : IterLine → List VState → List N) (done : List Finished) (number phase : ℕ) (states : List VState) (old new : Option (List N)) (runs_old runs entries_old entries : ℕ) (last : Stand)
     → Known P graph most told done number phase states old new runs_old runs entries_old entries → most ≤ number → stand P phase states ≡ last
-    → Over P graph most told done (Ok (last_end number states last)) old new runs_old runs entries_old entries
+    → Over P graph most told done (Ok (last_end number states last)) [] old new runs_old runs entries_old entries
 known_last P graph most told done number phase states old new runs_old runs entries_old entries (Rests last) known full is =
     known_over P graph most told done number phase last states Settled old new runs_old runs entries_old entries known (at_rest P graph most done number phase last states known.is_at is)
 known_last P graph most told done number phase states old new runs_old runs entries_old entries (Begins last) known full is =
@@ -300,11 +312,12 @@ at_begins_contains P graph most done number phase begins states is_at below is =
     (Contains-append_right (begun_in done) (begun_at P graph begins states ∷ []) (begun_at P graph begins states) here))
 
 -- a fault of an iteration, as the fault of the run that it is
-pub as_run_fault : (fault : IterFault) (on_memory on_watch : Type 0) (drive on_drive : ℕ → Type 0) (bad on_bad : BadEdge → Type 0) → on_memory → ((d : ℕ) → drive d → on_drive d) → ((edge : BadEdge) → bad edge → on_bad edge)
-    → MatchIterFault fault drive bad → MatchRunFault (run_fault_of fault) on_memory on_drive on_bad on_watch
-as_run_fault Iter.Memory on_memory on_watch drive on_drive bad on_bad memory by_drive by_bad fact = memory
-as_run_fault (Iter.Drive d) on_memory on_watch drive on_drive bad on_bad memory by_drive by_bad fact = by_drive d fact
-as_run_fault (Iter.BadEdge edge) on_memory on_watch drive on_drive bad on_bad memory by_drive by_bad fact = by_bad edge fact
+pub as_run_fault : (Is : RunFault → Type 0) (fault : IterFault) (memory : Type 0) (drive : ℕ → Type 0) (bad : BadEdge → Type 0)
+    → (memory → Is RunFault.Memory) → ((d : ℕ) → drive d → Is (RunFault.Drive d)) → ((edge : BadEdge) → bad edge → Is (RunFault.BadEdge edge))
+    → MatchIterFault fault memory drive bad → Is (run_fault_of fault)
+as_run_fault Is Iter.Memory memory drive bad by_memory by_drive by_bad fact = by_memory fact
+as_run_fault Is (Iter.Drive d) memory drive bad by_memory by_drive by_bad fact = by_drive d fact
+as_run_fault Is (Iter.BadEdge edge) memory drive bad by_memory by_drive by_bad fact = by_bad edge fact
 
 -- before the run nothing was shown
 pub shown_none : {N : Type 0} (told : IterLine → List VState → List N) (finished : List Finished) (old : Option (List N)) → ShownSome told finished old old
@@ -317,3 +330,60 @@ grew_none old = ([], sym (grown-nil old))
 
 pub grew_more : {N : Type 0} (old middle new : Option (List N)) (more : List N) → Grew old middle → new ≡ grown middle more → Grew old new
 grew_more {N} old middle new more (first, grew) next = (first ++ more, next ∙ ap (λ (o : Option (List N)). grown o more) grew ∙ grown-grown old first more)
+
+-- a count that rose with iterations that are all finished
+pub record RoseAll (amount : Begun → ℕ) (begun : List Begun) (old new : ℕ) : Type 0 where
+  pub by_all : new ≡ old + sum_by amount begun
+
+pub rose_none : (amount : Begun → ℕ) (old : ℕ) → RoseAll amount [] old old
+rose_none amount old = record { by_all = omega arith }
+
+-- one more finished
+pub rose_more : (amount : Begun → ℕ) (begun : List Begun) (last : Begun) (old middle new : ℕ) → RoseAll amount begun old middle → new ≡ middle + amount last → RoseAll amount (begun ++ last ∷ []) old new
+rose_more amount begun last old middle new rose is = record { by_all = omega (arith, rose.by_all, is, sum_by-append amount begun (last ∷ [])) }
+
+sum_of_fewer : (amount : Begun → ℕ) (k : ℕ) (begun : List Begun) → sum_by amount (take k begun) ≤ sum_by amount begun
+sum_of_fewer amount zero begun = omega arith
+sum_of_fewer amount (suc k) [] = omega arith
+sum_of_fewer amount (suc k) (one ∷ begun) = omega (arith, sum_of_fewer amount k begun, sum_by-cons amount one (take k begun), sum_by-cons amount one begun)
+
+-- all were finished, or the last was cut short
+pub rose_whole : (amount : Begun → ℕ) (begun : List Begun) (old new : ℕ) → RoseAll amount begun old new → RoseWith amount begun old new
+rose_whole amount begun old new rose = record { at_least = omega (arith, rose.by_all, sum_of_fewer amount (length begun - 1) begun); at_most = omega (arith, rose.by_all) }
+
+pub rose_part : (amount : Begun → ℕ) (begun : List Begun) (last : Begun) (old middle new : ℕ) → RoseAll amount begun old middle → RoseUpTo (amount last) middle new → RoseWith amount (begun ++ last ∷ []) old new
+rose_part amount begun last old middle new rose up =
+    let front : take (length (begun ++ last ∷ []) - 1) (begun ++ last ∷ []) ≡ begun =
+    ap (λ (k : ℕ). take k (begun ++ last ∷ [])) (omega (arith, length-append begun (last ∷ []))) ∙ take-append_seam begun (last ∷ []) in
+    record {
+      at_least = omega (arith, rose.by_all, up.at_least, ap (sum_by amount) front);
+      at_most = omega (arith, rose.by_all, up.at_most, sum_by-append amount begun (last ∷ []));
+    }
+
+-- both counts of a tally
+pub record TallyRose (begun : List Begun) (runs_old runs entries_old entries : ℕ) : Type 0 where
+  pub runs_rose : RoseAll (λ one. length one.active) begun runs_old runs
+  pub entries_rose : RoseAll (λ one. one.messages) begun entries_old entries
+
+pub tally_none : (runs entries : ℕ) → TallyRose [] runs runs entries entries
+tally_none runs entries = record { runs_rose = rose_none (λ one. length one.active) runs; entries_rose = rose_none (λ one. one.messages) entries }
+
+pub tally_more : (begun : List Begun) (last : Begun) (counts : Counts) (runs_old runs more_runs entries_old entries more_entries : ℕ) → TallyRose begun runs_old runs entries_old entries
+    → HasCounted counts last → more_runs ≡ runs + counts.active → more_entries ≡ entries + counts.messages → TallyRose (begun ++ last ∷ []) runs_old more_runs entries_old more_entries
+tally_more begun last counts runs_old runs more_runs entries_old entries more_entries rose counted ran entered = record {
+  runs_rose = rose_more (λ one. length one.active) begun last runs_old runs more_runs rose.runs_rose (omega (arith, ran, counted.active_count));
+  entries_rose = rose_more (λ one. one.messages) begun last entries_old entries more_entries rose.entries_rose (omega (arith, entered, counted.message_count));
+}
+
+pub tally_whole : {T : Type 0} (runs entries : T → ℕ) (old new : T) (begun : List Begun) → TallyRose begun (runs old) (runs new) (entries old) (entries new) → TallyRoseWith runs entries old new begun
+tally_whole runs entries old new begun rose = record {
+  runs_rose = rose_whole (λ one. length one.active) begun (runs old) (runs new) rose.runs_rose;
+  entries_rose = rose_whole (λ one. one.messages) begun (entries old) (entries new) rose.entries_rose;
+}
+
+pub tally_part : {T : Type 0} (runs entries : T → ℕ) (old middle new : T) (begun : List Begun) (last : Begun) → TallyRose begun (runs old) (runs middle) (entries old) (entries middle)
+    → RoseUpTo (length last.active) (runs middle) (runs new) → RoseUpTo last.messages (entries middle) (entries new) → TallyRoseWith runs entries old new (begun ++ last ∷ [])
+tally_part runs entries old middle new begun last rose ran entered = record {
+  runs_rose = rose_part (λ one. length one.active) begun last (runs old) (runs middle) (runs new) rose.runs_rose ran;
+  entries_rose = rose_part (λ one. one.messages) begun last (entries old) (entries middle) (entries new) rose.entries_rose entered;
+}

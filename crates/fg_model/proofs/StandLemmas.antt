@@ -4,6 +4,8 @@ use Rattle.std.specs.Prelude.{nat_lt, if◌then◌else◌}
 use Rattle.std.specs.List.{filter_map, cons_option}
 use Rattle.std.proofs.lemmas.Bool.Decides.{nat_tests}
 use Rattle.fg_base.specs.declared.plain.VState.{VState}
+use Rattle.fg_model.specs.declared.graph.Graph.{Graph}
+use Rattle.fg_model.specs.Iteration.{AreStates}
 use Rattle.fg_model.specs.Program.{Rules}
 use Rattle.fg_model.specs.Run.{bid_above, is_some_active, least, least_bid_above, lesser, stand_from}
 use Rattle.fg_model.specs.declared.stand.Stand.TheVariants.{Begins, Rests}
@@ -157,3 +159,7 @@ stand-rests (suc rises) P phase states idle none = rw (idle, none) refl
 pub stand-rises : (left rises : ℕ) (P : Rules) (phase bid : ℕ) (states : List VState) → left ≡ suc rises → is_some_active P phase states ≡ false → least_bid_above P phase states ≡ Some bid → stand_from left P phase states ≡ stand_from rises P bid states
 unfolding stand_from
 stand-rises left rises P phase bid states is idle some = rw (is, idle, some) refl
+
+-- states of a graph, for a graph and states that are the same
+pub are_moved : (graph moved : Graph) (states moved_states : List VState) → moved ≡ graph → moved_states ≡ states → AreStates graph.n states → AreStates moved.n moved_states
+are_moved graph moved states moved_states same_graph same_states are = rw (same_graph, same_states) are

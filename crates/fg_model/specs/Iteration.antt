@@ -5,8 +5,9 @@ use Rattle.fg_base.specs.declared.plain.BadEdge.{BadEdge}
 use Rattle.fg_base.specs.declared.plain.VState.{VState}
 use Rattle.fg_model.specs.declared.graph.Graph.{Graph}
 use Rattle.fg_model.specs.declared.iteration.Iteration.{Iteration}
+use Rattle.fg_model.specs.declared.mail.Mail.{Mail}
 use Rattle.fg_model.specs.Program.{Rules, IsInRange}
-use Rattle.fg_model.specs.VertexRun.{Message, ran, edges_of}
+use Rattle.fg_model.specs.VertexRun.{ran, edges_of}
 
 -- the state of the vertex v
 abbrev pub state_at : List VState → ℕ → VState
@@ -34,7 +35,7 @@ unfoldable pub first_bad : Rules → Graph → ℕ → List VState → Option Ba
 first_bad P graph phase states = find (is_bad graph.n) (needed P graph phase states)
 
 -- all messages, by ascending sender and then in list order
-unfoldable pub mail : Rules → Graph → ℕ → List VState → List Message
+unfoldable pub mail : Rules → Graph → ℕ → List VState → List Mail
 mail P graph phase states = flat_map (λ v. (ran P graph phase v (state_at states v)).messages) (active_vertices P phase states)
 
 -- each active vertex with the state of its run, every other one as it was
@@ -45,11 +46,11 @@ unfoldable pub states_after_runs : Rules → ℕ → List VState → List VState
 states_after_runs P phase states = map (λ (v, s). own_state P phase v s) (enumerate_from 0 states)
 
 -- what was sent to v, in the mail's order
-abbrev pub sent_to : ℕ → List Message → List ℕ
-sent_to v messages = map (λ message. message.value) (filter (λ message. message.target == v) messages)
+abbrev pub sent_to : ℕ → List Mail → List ℕ
+sent_to v messages = map (λ one. one.message) (filter (λ one. one.target == v) messages)
 
 -- every vertex with the mail to it folded in
-unfoldable pub folded : Rules → List Message → List VState → List VState
+unfoldable pub folded : Rules → List Mail → List VState → List VState
 folded P messages states = map (λ (v, s). fold P.receive s (sent_to v messages)) (enumerate_from 0 states)
 
 -- the states after the iteration; it is a finished one where `first_bad` is none

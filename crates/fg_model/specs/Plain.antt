@@ -6,9 +6,10 @@ use Rattle.fg_base.specs.declared.plain.Need.{Need}
 use Rattle.fg_base.specs.declared.plain.VState.{VState}
 use Rattle.fg_model.specs.declared.graph.Graph.{Graph}
 use Rattle.fg_model.specs.declared.plain.Active.{Active}
+use Rattle.fg_model.specs.declared.mail.Mail.{Mail}
 use Rattle.fg_model.specs.Iteration.{active_vertices, state_at}
 use Rattle.fg_model.specs.Program.{Rules}
-use Rattle.fg_model.specs.VertexRun.{Message, edges_of, message_along, over_lists}
+use Rattle.fg_model.specs.VertexRun.{edges_of, message_along, over_lists}
 
 -- an active vertex with the carry of its run
 abbrev pub active_at : Rules → ℕ → List VState → ℕ → Active
@@ -18,11 +19,11 @@ unfoldable pub all_active : Rules → ℕ → List VState → List Active
 all_active P phase states = map (active_at P phase states) (active_vertices P phase states)
 
 -- what an active vertex sends
-abbrev pub sent_from : Rules → Need → Graph → Active → List Message
+abbrev pub sent_from : Rules → Need → Graph → Active → List Mail
 sent_from P need graph from = over_lists need graph from.v (λ dir entries. map (message_along P from.carry dir) entries)
 
 -- the messages of these vertices, and the entries that they go along
-unfoldable pub messages_over : Rules → Need → Graph → List Active → List Message
+unfoldable pub messages_over : Rules → Need → Graph → List Active → List Mail
 messages_over P need graph active = flat_map (sent_from P need graph) active
 
 unfoldable pub edges_over : Need → Graph → List Active → List BadEdge

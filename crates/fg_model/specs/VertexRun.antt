@@ -6,6 +6,7 @@ use Rattle.fg_base.specs.declared.plain.Entry.{Entry}
 use Rattle.fg_base.specs.declared.plain.Need.{Need}
 use Rattle.fg_base.specs.declared.plain.VState.{VState}
 use Rattle.fg_model.specs.declared.graph.Graph.{Graph}
+use Rattle.fg_model.specs.declared.mail.Mail.{Mail}
 use Rattle.fg_model.specs.Graph.{row}
 use Rattle.fg_model.specs.Program.{Rules}
 
@@ -15,23 +16,18 @@ over_lists Need.Out graph v f = f Dir.Out (row graph.outs v)
 over_lists Need.In graph v f = f Dir.In (row graph.ins v)
 over_lists Need.Both graph v f = f Dir.Out (row graph.outs v) ++ f Dir.In (row graph.ins v)
 
--- a message on its way
-pub record Message : Type 0 where
-  pub target : ℕ
-  pub value : ℕ
-
 -- the message along one entry
-abbrev pub message_along : Rules → ℕ → Dir → Entry → Message
-message_along P carry dir entry = record { target = entry.target; value = P.edge carry dir entry }
+abbrev pub message_along : Rules → ℕ → Dir → Entry → Mail
+message_along P carry dir entry = record { target = entry.target; message = P.edge carry dir entry }
 
 -- the messages of a vertex with this carry: one for each entry of its needed lists, in list order
-abbrev pub sent : Rules → Graph → ℕ → ℕ → List Message
+abbrev pub sent : Rules → Graph → ℕ → ℕ → List Mail
 sent P graph carry v = over_lists P.need graph v (λ dir entries. map (message_along P carry dir) entries)
 
 -- a vertex run: the vertex's own new state, and what it sends
 pub record Ran : Type 0 where
   pub state : VState
-  pub messages : List Message
+  pub messages : List Mail
 
 abbrev pub ran : Rules → Graph → ℕ → ℕ → VState → Ran
 ran P graph phase v s = let begun = P.begin phase v s in record { state = begun.0; messages = sent P graph begun.1 v }

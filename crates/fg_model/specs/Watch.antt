@@ -3,7 +3,7 @@ use Rattle.std.specs.Prelude.{◌≡◌, ℕ, ◌<◌, Option, List, ◌++◌, d
 use Rattle.std.specs.List.{flat_map}
 use Rattle.fg_base.specs.declared.plain.VState.{VState}
 use Rattle.fg_base.specs.Told.{grown}
-use Rattle.fg_model.specs.declared.iteration.Iteration.{Iteration}
+use Rattle.fg_model.specs.declared.iteration.Counts.{Counts}
 use Rattle.fg_model.specs.declared.watch.IterLine.{IterLine}
 use Rattle.fg_model.specs.Run.{Finished}
 
@@ -12,8 +12,8 @@ abbrev pub line_of : Finished → IterLine
 line_of iteration = record { number = iteration.number; phase = iteration.begun.phase; active = length iteration.begun.active; messages = iteration.begun.messages }
 
 -- the line of a finished iteration as the code counts it
-abbrev pub line_at : ℕ → ℕ → Iteration → IterLine
-line_at number phase iteration = record { number = number; phase = phase; active = iteration.active; messages = iteration.messages }
+abbrev pub line_at : ℕ → ℕ → Counts → IterLine
+line_at number phase counts = record { number = number; phase = phase; active = counts.active; messages = counts.messages }
 
 -- it holds all that it held, and maybe more behind it; what doesn't tell what it holds still doesn't
 abbrev pub Grew : {N : Type 0} → Option (List N) → Option (List N) → Type 0

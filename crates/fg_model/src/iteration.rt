@@ -12,6 +12,13 @@ pub struct Iteration {
     pub messages: u64,
 }
 
+/// How many vertices were active in a finished iteration, and how many messages were sent.
+#[derive(Clone, Copy, PartialEq, Eq, Debug)]
+pub struct Counts {
+    pub active: u64,
+    pub messages: u64,
+}
+
 /// Why an iteration wasn't finished.
 #[derive(Clone, Copy, PartialEq, Eq, Debug)]
 pub enum IterFault {

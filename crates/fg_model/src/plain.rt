@@ -1,24 +1,24 @@
 //! The run in memory, which everything faster is measured against.
 
-ghost use Rattle.std.specs.Prelude.{◌≡◌, ◌+◌, ◌<◌, ◌≤◌, ◌^◌, ◌∷◌, ℕ, true, None, Some, Ok, Err, List, [], find, length, map, slice_set, IfErr, IfOk, OnOk, All, vec_len};
-ghost use Rattle.fg_base.specs.Faults.{Rose};
-ghost use Rattle.fg_model.specs.declared.run.RunFault.{RunFault};
-ghost use Rattle.fg_model.specs.Engine.{MatchIterFault, MatchRunFault};
+ghost use Rattle.std.specs.Prelude.{◌≡◌, ◌+◌, ◌<◌, ◌≤◌, ◌^◌, ℕ, true, None, Some, find, length, map, slice_set, IfErr, IfOk, OnOk, All, vec_len};
+ghost use Rattle.fg_model.specs.Engine.{HasTallied, MatchIterFault, RoseUpTo, ShownAs, TallyRoseWith, TellsEnd, TellsFaults, Went};
 ghost use Rattle.fg_model.specs.Graph.{IsWithinLimits};
-ghost use Rattle.fg_model.specs.Iteration.{AreStates, IsIteration, first_bad, folded, is_bad, state_at, states_after_runs};
+ghost use Rattle.fg_model.specs.Iteration.{AreStates, IsIteration, begun_at, first_bad, folded, is_bad, state_at, states_after_runs};
 ghost use Rattle.fg_model.specs.Plain.{all_active, edges_over, messages_over, sent_from};
-ghost use Rattle.fg_model.specs.Run.{answer_of, entries_of, opening_states, run, runs_of};
-ghost use Rattle.fg_model.specs.Watch.{Grew, ShownAll, ShownPart, ShownSome};
+ghost use Rattle.fg_model.specs.Run.{begun_of, opening_states, run};
+ghost use Rattle.fg_model.specs.Watch.{Grew};
 ghost use Rattle.fg_model.specs.VertexRun.{edges_from, edges_of, message_along};
 
 use crate::engine::Engine;
 use crate::graph::Graph;
-use crate::iteration::{IterFault, Iteration};
+use crate::iteration::{Counts, IterFault, Iteration};
 use crate::program::Program;
 use crate::run::{End, RunFault, run_engine};
+use crate::stand::is_some_active;
 use crate::watch::Watch;
 use fg_base::{BadEdge, Dir, Entry, Items, Memory, Need, Tally, VState};
 use std::alloc::Global;
+use std::mem;
 
 /// An active vertex whose run began, and the carry that its messages are made from.
 #[derive(Clone, Copy)]
@@ -66,6 +66,7 @@ fn begin_runs<P: Program, T: Tally>(
     ensures states { IfOk result (λ runs. runs.states.items ≡ states_after_runs (P.rules program.now) phase states.now) }
     ensures active { IfOk result (λ runs. runs.active.items ≡ all_active (P.rules program.now) phase states.now) }
     ensures runs { IfOk result (λ runs. T.runs tally.new ≡ T.runs tally.old + vec_len runs.active) }
+    ensures few_runs { RoseUpTo (length (all_active (P.rules program.now) phase states.now)) (T.runs tally.old) (T.runs tally.new) }
     ensures entries { T.entries tally.new ≡ T.entries tally.old }
 {
     let mut next = Vec::with_capacity(alloc, states.len())?;
@@ -97,7 +98,8 @@ fn send_one<P: Program, T: Tally>(
 )
     requires vertex { entry.target < length states.old }
     requires room { T.entries tally.old + 1 < 2 ^ 64 }
-    ensures states { states.new ≡ slice_set states.old entry.target ((P.rules program.now).receive (state_at states.old entry.target) ((P.rules program.now).edge from.carry dir entry)) }
+    ensures states { states.new ≡ slice_set states.old entry.target
+        ((P.rules program.now).receive (state_at states.old entry.target) ((P.rules program.now).edge from.carry dir entry)) }
     ensures runs { T.runs tally.new ≡ T.runs tally.old }
     ensures entries { T.entries tally.new ≡ T.entries tally.old + 1 }
 {
@@ -119,7 +121,9 @@ fn send_along<P: Program, T: Tally>(
     requires room { T.entries tally.old + length entries.now < 2 ^ 64 }
     ensures runs { T.runs tally.new ≡ T.runs tally.old }
     ensures ok_sound { OnOk result (find (is_bad (length states.old)) (edges_from from.v dir 0 entries.now) ≡ None) }
-    ensures ok_states { OnOk result (states.new ≡ folded (P.rules program.now) (map (message_along (P.rules program.now) from.carry dir) entries.now) states.old) }
+    ensures few_entries { RoseUpTo (length entries.now) (T.entries tally.old) (T.entries tally.new) }
+    ensures ok_states { OnOk result (states.new ≡
+        folded (P.rules program.now) (map (message_along (P.rules program.now) from.carry dir) entries.now) states.old) }
     ensures ok_entries { OnOk result (T.entries tally.new ≡ T.entries tally.old + length entries.now) }
     ensures err { IfErr result (λ bad. find (is_bad (length states.old)) (edges_from from.v dir 0 entries.now) ≡ Some bad) }
 {
@@ -152,7 +156,9 @@ fn send<P: Program, T: Tally>(
     requires room { T.entries tally.old + length (edges_of need graph.now from.v) < 2 ^ 64 }
     ensures runs { T.runs tally.new ≡ T.runs tally.old }
     ensures ok_sound { OnOk result (find (is_bad graph.now.n) (edges_of need graph.now from.v) ≡ None) }
-    ensures ok_states { OnOk result (states.new ≡ folded (P.rules program.now) (sent_from (P.rules program.now) need graph.now from) states.old) }
+    ensures few_entries { RoseUpTo (length (edges_of need graph.now from.v)) (T.entries tally.old) (T.entries tally.new) }
+    ensures ok_states { OnOk result (states.new ≡
+        folded (P.rules program.now) (sent_from (P.rules program.now) need graph.now from) states.old) }
     ensures ok_count { IfOk result (λ count. count ≡ length (edges_of need graph.now from.v)) }
     ensures ok_entries { OnOk result (T.entries tally.new ≡ T.entries tally.old + length (edges_of need graph.now from.v)) }
     ensures err { IfErr result (λ bad. find (is_bad graph.now.n) (edges_of need graph.now from.v) ≡ Some bad) }
@@ -192,7 +198,9 @@ fn deliver<P: Program, T: Tally>(
     requires room { T.entries tally.old + 2 ^ 27 < 2 ^ 64 }
     ensures runs { T.runs tally.new ≡ T.runs tally.old }
     ensures ok_sound { OnOk result (find (is_bad graph.now.n) (edges_over need graph.now active.now) ≡ None) }
-    ensures ok_states { OnOk result (states.new ≡ folded (P.rules program.now) (messages_over (P.rules program.now) need graph.now active.now) states.old) }
+    ensures few_entries { RoseUpTo (length (edges_over need graph.now active.now)) (T.entries tally.old) (T.entries tally.new) }
+    ensures ok_states { OnOk result (states.new ≡
+        folded (P.rules program.now) (messages_over (P.rules program.now) need graph.now active.now) states.old) }
     ensures ok_count { IfOk result (λ count. count ≡ length (edges_over need graph.now active.now)) }
     ensures ok_entries { OnOk result (T.entries tally.new ≡ T.entries tally.old + length (edges_over need graph.now active.now)) }
     ensures err { IfErr result (λ bad. find (is_bad graph.now.n) (edges_over need graph.now active.now) ≡ Some bad) }
@@ -224,7 +232,12 @@ fn iterate_in_memory<P: Program, T: Tally>(
     ensures ok_messages { IfOk result (λ iteration. iteration.messages ≤ 2 ^ 27) }
     ensures ok_runs { IfOk result (λ iteration. T.runs tally.new ≡ T.runs tally.old + iteration.active) }
     ensures ok_entries { IfOk result (λ iteration. T.entries tally.new ≡ T.entries tally.old + iteration.messages) }
-    ensures bad_edge { IfErr result (λ fault. MatchIterFault fault (λ drive. ⊥) (λ bad. first_bad (P.rules program.now) graph.now phase states.now ≡ Some bad)) }
+    ensures few_runs { RoseUpTo (length (begun_at (P.rules program.now) graph.now phase states.now).active)
+        (T.runs tally.old) (T.runs tally.new) }
+    ensures few_entries { RoseUpTo (begun_at (P.rules program.now) graph.now phase states.now).messages
+        (T.entries tally.old) (T.entries tally.new) }
+    ensures bad_edge { IfErr result (λ fault. MatchIterFault fault (Unit {0}) (λ drive. ⊥)
+        (λ bad. first_bad (P.rules program.now) graph.now phase states.now ≡ Some bad)) }
 {
     let Runs {
         states: mut next,
@@ -250,6 +263,7 @@ fn iterate_in_memory<P: Program, T: Tally>(
 #[derive(Drop)]
 struct PlainEngine<'a> {
     graph: &'a Graph,
+    states: Items<VState>,
 }
 
 impl<P: Program, T: Tally> Engine<P, T> for PlainEngine<'_> {
@@ -257,7 +271,9 @@ impl<P: Program, T: Tally> Engine<P, T> for PlainEngine<'_> {
 
     ghost knows = { λ engine. true };
 
-    ghost ready = { λ engine. IsWithinLimits engine.graph.now };
+    ghost states_of = { λ engine. engine.states };
+
+    ghost ready = { λ engine rules. IsWithinLimits engine.graph.now };
 
     ghost allows = { λ engine rules begun. Unit {0} };
 
@@ -277,15 +293,39 @@ impl<P: Program, T: Tally> Engine<P, T> for PlainEngine<'_> {
 
     ghost did_more = { λ first middle last rules begun next did more. tt };
 
+    fn states(&self) -> &[VState] {
+        self.states.as_slice()
+    }
+
+    fn give_states(&mut self, alloc: Global) -> Items<VState> {
+        mem::replace(&mut self.states, Items::new(alloc))
+    }
+
+    fn some_active(&mut self, program: &P, phase: u64) -> bool {
+        is_some_active(program, phase, self.states.as_slice())
+    }
+
     fn iterate(
         &mut self,
         alloc: Global,
         program: &P,
         phase: u64,
-        states: &[VState],
         tally: &mut T,
-    ) -> Result<Iteration, IterFault> {
-        iterate_in_memory(alloc, program, self.graph, phase, states, tally)
+    ) -> Result<Counts, IterFault> {
+        let Iteration {
+            states,
+            active,
+            messages,
+        } = iterate_in_memory(
+            alloc,
+            program,
+            self.graph,
+            phase,
+            self.states.as_slice(),
+            tally,
+        )?;
+        self.states = states;
+        Ok(Counts { active, messages })
     }
 }
 
@@ -318,28 +358,27 @@ pub fn plain_run<P: Program, W: Watch, T: Tally>(
     tally: &mut T,
 ) -> Result<End, RunFault>
     requires within { IsWithinLimits graph.now }
-    requires room_of_runs { T.runs tally.old + 2 ^ 56 ≤ 2 ^ 64 }
-    requires room_of_entries { T.entries tally.old + 2 ^ 59 ≤ 2 ^ 64 }
+    requires room_of_runs { T.runs tally.old + 2 ^ 57 ≤ 2 ^ 64 }
+    requires room_of_entries { T.entries tally.old + 2 ^ 60 ≤ 2 ^ 64 }
+    ensures went { Went (λ begun. Unit {0}) (TallyRoseWith T.runs T.entries tally.old tally.new) true result
+        (begun_of (run (P.rules program.now) graph.now max)) }
     ensures same_told { W.told watch.new ≡ W.told watch.old }
     ensures same_borrows { W.same_borrows watch.old watch.new }
     ensures grew { Grew (W.notes watch.old) (W.notes watch.new) }
+    // of each answer: whether the watch's count rose, whether the run ends so, and what was shown
+    ensures faults { TellsFaults result (Unit {0}) (λ drive. ⊥) (W.faults watch.old) (W.faults watch.new) }
+    ensures answer { TellsEnd result (run (P.rules program.now) graph.now max) }
+    ensures shown { ShownAs result (W.told watch.old) (run (P.rules program.now) graph.now max).finished
+        (W.notes watch.old) (W.notes watch.new) }
     // of a run with an end
-    ensures ok { IfOk result (λ end. answer_of (run (P.rules program.now) graph.now max) ≡ Ok end) }
     ensures ok_states { IfOk result (λ end. AreStates graph.now.n end.states) }
-    ensures ok_watch { OnOk result (W.faults watch.new ≡ W.faults watch.old) }
-    ensures ok_shown { OnOk result (ShownAll (W.told watch.old) (run (P.rules program.now) graph.now max).finished (W.notes watch.old) (W.notes watch.new)) }
-    ensures ok_runs { OnOk result (T.runs tally.new ≡ T.runs tally.old + runs_of (run (P.rules program.now) graph.now max).finished) }
-    ensures ok_entries { OnOk result (T.entries tally.new ≡ T.entries tally.old + entries_of (run (P.rules program.now) graph.now max).finished) }
-    // of each fault: whether the watch's count rose, whether the run ends so, and what was shown
-    ensures faults { IfErr result (λ fault. MatchRunFault fault (W.faults watch.new ≡ W.faults watch.old) (λ drive. ⊥) (λ bad. W.faults watch.new ≡ W.faults watch.old) (Rose (W.faults watch.old) (W.faults watch.new))) }
-    ensures bad_edge { IfErr result (λ fault. MatchRunFault fault (Unit {0}) (λ drive. ⊥) (λ bad. answer_of (run (P.rules program.now) graph.now max) ≡ Err (RunFault.BadEdge bad)) (Unit {0})) }
-    ensures shown { IfErr result (λ fault. MatchRunFault fault
-        (ShownSome (W.told watch.old) (run (P.rules program.now) graph.now max).finished (W.notes watch.old) (W.notes watch.new))
-        (λ drive. ⊥)
-        (λ bad. ShownAll (W.told watch.old) (run (P.rules program.now) graph.now max).finished (W.notes watch.old) (W.notes watch.new))
-        (ShownPart (W.told watch.old) (run (P.rules program.now) graph.now max).finished (W.notes watch.old) (W.notes watch.new))) }
+    ensures ok_tally { OnOk result (HasTallied T.runs T.entries tally.old tally.new
+        (run (P.rules program.now) graph.now max).finished) }
 {
     let states = open_states(alloc, program, graph)?;
-    let mut engine = PlainEngine { graph };
-    run_engine(alloc, &mut engine, program, states, max, watch, tally)
+    let mut engine = PlainEngine {
+        graph,
+        states: Items::from_vec(states),
+    };
+    run_engine(alloc, &mut engine, program, max, watch, tally)
 }

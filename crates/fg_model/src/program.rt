@@ -5,10 +5,10 @@ ghost use Rattle.fg_model.specs.Program.{Rules, IsLawful};
 
 use fg_base::{Dir, Entry, Need, Tally, VState, Value};
 
-/// A vertex program: eight pure functions. An iteration runs each vertex that is awake, which gives it a new state and
+/// A vertex program: nine pure functions. An iteration runs each vertex that is awake, which gives it a new state and
 /// sends a message along each entry of the needed lists; then each vertex folds the messages to it into its state.
 pub trait Program {
-    /// The eight functions on whole numbers. Everything that is said of a program is said of them.
+    /// The nine functions on whole numbers. Everything that is said of a program is said of them.
     ghost rules: { Self → Rules };
 
     /// The lists that a run goes over.
@@ -39,6 +39,10 @@ pub trait Program {
     fn receive(&self, s: VState, m: u64) -> VState
         ensures { result ≡ (rules self.now).receive s m };
 
+    /// One message in place of two: folding it in does what folding in both does.
+    fn combine(&self, x: u64, y: u64) -> u64
+        ensures { result ≡ (rules self.now).combine x y };
+
     /// Whether a vertex with this state is active.
     fn wake(&self, phase: u64, s: VState) -> bool
         ensures { result ≡ (rules self.now).wake phase s };
@@ -51,6 +55,6 @@ pub trait Program {
     fn show(&self, s: VState) -> Value
         ensures { result ≡ (rules self.now).show s };
 
-    /// Two messages may be folded in either order, and every function stays below 2^64.
+    /// Two messages may be folded in either order, or as the one that they combine to, and every function stays below 2^64.
     ghost lawful: { (program : Self) → IsLawful (rules program) };
 }

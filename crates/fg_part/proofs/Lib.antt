@@ -1,2 +1,2 @@
-mod Ceilings
+pub mod Ceilings
 pub mod PartMapLaws

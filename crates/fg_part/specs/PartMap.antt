@@ -27,6 +27,18 @@ block_total map = div_ceil map.n (block_size map)
 abbrev pub blocks_in : PartMap → ℕ → ℕ
 blocks_in map part = div_ceil (block_total map - part) map.parts
 
+-- the place of a vertex in its part, whose blocks stand one behind the other
+abbrev pub place_of : PartMap → ℕ → ℕ
+place_of map v = block_of map v / map.parts * block_size map + v % block_size map
+
+-- how many places a part has: the last of them may be no vertices
+abbrev pub places_in : PartMap → ℕ → ℕ
+places_in map part = blocks_in map part * block_size map
+
+-- the vertex at a place of a part
+abbrev pub vertex_at : PartMap → ℕ → ℕ → ℕ
+vertex_at map part place = block_at map part (place / block_size map) * block_size map + place % block_size map
+
 -- the vertex v is among the vertices of the block b
 pub record StandsIn (map : PartMap) (b v : ℕ) : Type 0 where
   pub vertex : v < map.n

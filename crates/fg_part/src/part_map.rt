@@ -1,4 +1,4 @@
-ghost use Rattle.std.specs.Prelude.{◌≡◌, ℕ, ◌<◌, ◌≤◌};
+ghost use Rattle.std.specs.Prelude.{◌≡◌, ℕ, ◌+◌, ◌^◌, ◌<◌, ◌≤◌};
 ghost use Rattle.fg_base.specs.declared.limits.TheConstants.{MAX_VERTICES, MAX_SHIFT, MAX_WORKERS};
 
 use fg_base::limits::{MAX_SHIFT, MAX_VERTICES, MAX_WORKERS};
@@ -19,7 +19,7 @@ pub struct PartMap {
 }
 
 impl PartMap {
-    ghost use Rattle.fg_part.specs.PartMap.{block_of, part_of, block_total, blocks_in, block_at, StandsIn, IsBlock};
+    ghost use Rattle.fg_part.specs.PartMap.{block_of, part_of, block_total, blocks_in, block_at, place_of, places_in, vertex_at, StandsIn, IsBlock};
 
     /// The map over the vertices below `n`.
     pub fn new(n: u32, shift: u32, parts: u32) -> PartMap
@@ -35,6 +35,7 @@ impl PartMap {
     pub fn block_of(&self, v: u32) -> u32
         requires { v < self.now.n }
         ensures value { result ≡ block_of self.now v }
+        ensures within { result < block_total self.now }
         ensures stands { StandsIn self.now result v }
         ensures alone { (b : ℕ) → StandsIn self.now b v → b ≡ result }
     {
@@ -71,5 +72,36 @@ impl PartMap {
         ensures alone { (p j : ℕ) → p < self.now.parts → block_at self.now p j ≡ result → (p ≡ part) × (j ≡ k) }
     {
         k * self.parts + part
+    }
+
+    /// The place of `v` in its part, from 0 on. No other vertex of the part has it.
+    pub fn place_of(&self, v: u32) -> u32
+        requires { v < self.now.n }
+        ensures value { result ≡ place_of self.now v }
+        ensures within { result < places_in self.now (part_of self.now v) }
+        ensures back { vertex_at self.now (part_of self.now v) result ≡ v }
+    {
+        ((self.block_of(v) / self.parts) << self.shift) + v % (1 << self.shift)
+    }
+
+    /// How many places the part has. The last ones may be no vertices.
+    pub fn places(&self, part: u32) -> u32
+        requires { part < self.now.parts }
+        ensures value { result ≡ places_in self.now part }
+        ensures few { result < MAX_VERTICES + 2 ^ MAX_SHIFT }
+    {
+        self.blocks(part) << self.shift
+    }
+
+    /// The vertex at a place of the part; no vertex where it is `n` or more.
+    pub fn vertex_at(&self, part: u32, place: u32) -> u32
+        requires part { part < self.now.parts }
+        requires within { place < places_in self.now part }
+        ensures value { result ≡ vertex_at self.now part place }
+        ensures in_part { result < self.now.n → part_of self.now result ≡ part }
+        ensures back { result < self.now.n → place_of self.now result ≡ place }
+    {
+        let block = self.block(part, place >> self.shift);
+        (block << self.shift) + place % (1 << self.shift)
     }
 }

@@ -25,6 +25,7 @@ rank cut = record {
   begin = λ phase v s. (record { a = stopping s.a s.b; b = 0; c = s.c }, share_of s.b s.c);
   edge = λ carry dir entry. carry;
   receive = λ s m. record { a = s.a; b = stopping s.b m; c = s.c };
+  combine = λ x y. stopping x y;
   wake = λ phase s. nat_le cut s.b;
   bid = λ s. None;
   show = λ s. Two s.a s.b;

@@ -10,6 +10,10 @@ use Rattle.fg_rank.specs.Rank.{rank, share_of, stopping}
 stopping-swap : (b x y : ℕ) → stopping (stopping b x) y ≡ stopping (stopping b y) x
 stopping-swap b x y = omega arith
 
+-- two sums that stop, one by one or the last two at first
+stopping-join : (b x y : ℕ) → stopping (stopping b x) y ≡ stopping b (stopping x y)
+stopping-join b x y = omega arith
+
 stopping-fits : (x y : ℕ) → stopping x y < 2 ^ 64
 stopping-fits x y = omega arith
 
@@ -24,11 +28,13 @@ pub rank_is_lawful : (cut : ℕ) → IsLawful (rank cut)
 unfolding rank
 rank_is_lawful cut = record {
   order = λ s x y s_fits x_fits y_fits. ap (λ (b : ℕ). let t : VState = record { a = s.a; b = b; c = s.c } in t) (stopping-swap s.b x y);
+  joins = λ s x y s_fits x_fits y_fits. ap (λ (b : ℕ). let t : VState = record { a = s.a; b = b; c = s.c } in t) (stopping-join s.b x y);
   init_fits = λ v outs ins v_fits outs_fits ins_fits. record { a_fits = lit< tt; b_fits = lit< tt; c_fits = omega arith };
   begin_fits = λ phase v s phase_fits v_fits s_fits awake. record { a_fits = stopping-fits s.a s.b; b_fits = lit< tt; c_fits = s_fits.c_fits };
   carry_fits = λ phase v s phase_fits v_fits s_fits awake. share-fits s.b s.c s_fits.b_fits;
   edge_fits = λ carry dir entry carry_fits target_fits weight_fits. carry_fits;
   receive_fits = λ s m s_fits m_fits. record { a_fits = s_fits.a_fits; b_fits = stopping-fits s.b m; c_fits = s_fits.c_fits };
+  combine_fits = λ x y x_fits y_fits. stopping-fits x y;
   bid_fits = λ s s_fits. tt;
   show_fits = λ s s_fits. (s_fits.a_fits, s_fits.b_fits);
 }

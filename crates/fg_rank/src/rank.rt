@@ -70,6 +70,10 @@ impl Program for Rank {
         }
     }
 
+    fn combine(&self, x: u64, y: u64) -> u64 {
+        x.saturating_add(y)
+    }
+
     fn wake(&self, _phase: u64, s: VState) -> bool {
         s.b >= self.cut
     }

@@ -3,30 +3,11 @@ use Rattle.std.specs.Prelude.{ℕ, List, ◌++◌, codes, decimal}
 use Rattle.fg_base.specs.declared.plain.BadEdge.{BadEdge as BadEntry}
 use Rattle.fg_base.specs.declared.plain.Dir.{Dir}
 use Rattle.fg_base.specs.declared.plain.Dir.TheVariants.{Out, In}
-use Rattle.fg_base.specs.declared.refusal.Opt.{Opt}
-use Rattle.fg_base.specs.declared.refusal.Opt.TheVariants.{Program, Source, Max, Cut, Each, Quiet, Unit as UnitPages, Number, Undirected, Input, Start, Nodes, Edges, Drives, Drive}
 use Rattle.fg_base.specs.declared.refusal.WordFault.{WordFault}
 use Rattle.fg_base.specs.declared.refusal.WordFault.TheVariants.{Parse, Command, Extra, Missing, Range}
 use Rattle.fg_base.specs.declared.refusal.Refusal.{Refusal}
-use Rattle.fg_base.specs.declared.refusal.Refusal.TheVariants.{Memory, Words, InputFault, OutputFault, DriveFault, BadLine, IdTooLarge, TooManyEdges, TextTooLong, NotEmpty, ShortDrive, NoLabel, WrongDrive, LabelDiffers, BadHeader, BadVersion, BadSections, BadIndex, BadSource, BadEdge}
-
--- an option's name as it is written
-abbrev pub option_name : Opt → List ℕ
-option_name Program = codes "program"
-option_name Source = codes "source"
-option_name Max = codes "max"
-option_name Cut = codes "cut"
-option_name Each = codes "each"
-option_name Quiet = codes "quiet"
-option_name UnitPages = codes "unit"
-option_name Number = codes "number"
-option_name Undirected = codes "undirected"
-option_name Input = codes "input"
-option_name Start = codes "start"
-option_name Nodes = codes "nodes"
-option_name Edges = codes "edges"
-option_name Drives = codes "drives"
-option_name Drive = codes "drive"
+use Rattle.fg_base.specs.declared.refusal.Refusal.TheVariants.{Memory, Words, InputFault, OutputFault, DriveFault, BadLine, IdTooLarge, TooManyEdges, TextTooLong, NotEmpty, ShortDrive, NoLabel, WrongDrive, LabelDiffers, BadHeader, BadVersion, BadSections, BadIndex, BadSource, BadEdge, BadPadding, NotMirror}
+use Rattle.fg_base.specs.Options.{option_name}
 
 -- a direction as it is written
 abbrev pub direction_name : Dir → List ℕ
@@ -70,6 +51,8 @@ refusal_text BadSections = codes "bad sections"
 refusal_text (BadIndex dir place) = codes "bad " ++ direction_name dir ++ codes " index at " ++ decimal place
 refusal_text (BadSource source n) = codes "source " ++ decimal source ++ codes " not below " ++ decimal n
 refusal_text (BadEdge edge) = bad_entry_text edge
+refusal_text (BadPadding page) = codes "page " ++ decimal page ++ codes " padding"
+refusal_text (NotMirror v) = codes "vertex " ++ decimal v ++ codes " not mirrored"
 
 -- the line of a refusal, with its end
 abbrev pub refusal_line : Refusal → List ℕ

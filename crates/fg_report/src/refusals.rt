@@ -4,7 +4,8 @@ ghost use Rattle.std.specs.Prelude.{◌≡◌, ◌+◌, ◌≤◌, [], ◌++◌,
 ghost use Rattle.fg_base.specs.Faults.{Counts};
 ghost use Rattle.fg_base.specs.Told.{grown, GrewByFirst};
 ghost use Rattle.arrayvec.specs.ArrayString.{array_string_len};
-ghost use Rattle.fg_report.specs.Refusals.{option_name, direction_name, word_fault_text, bad_entry_text, refusal_text, refusal_line};
+ghost use Rattle.fg_base.specs.Options.{option_name};
+ghost use Rattle.fg_report.specs.Refusals.{direction_name, word_fault_text, bad_entry_text, refusal_text, refusal_line};
 ghost use Rattle.fg_base.specs.declared.refusal.Refusal.TheVariants.{OutputFault as output_fault};
 
 use crate::line::{LINE_BYTES, Line, push_number};
@@ -176,6 +177,8 @@ fn push_refusal(line: &mut Line, refusal: &Refusal)
         Refusal::BadIndex(dir, place) => push_bad_index(line, dir, place),
         Refusal::BadSource(source, n) => push_two(line, "source ", source, " not below ", n),
         Refusal::BadEdge(edge) => push_bad_edge(line, &edge),
+        Refusal::BadPadding(page) => push_between(line, "page ", u64::from(page), " padding"),
+        Refusal::NotMirror(v) => push_between(line, "vertex ", u64::from(v), " not mirrored"),
     }
 }
 

@@ -24,6 +24,7 @@ impl Program for Idle {
       begin = λ phase v s. (s, 0);
       edge = λ carry dir entry. carry;
       receive = λ s m. s;
+      combine = λ x y. x;
       wake = λ phase s. true;
       bid = λ s. None;
       show = λ s. One s.a;
@@ -31,11 +32,13 @@ impl Program for Idle {
 
     ghost lawful = { λ _. record {
       order = λ s x y s_fits x_fits y_fits. refl;
+      joins = λ s x y s_fits x_fits y_fits. refl;
       init_fits = λ v outs ins v_fits outs_fits ins_fits. record { a_fits = lit< tt; b_fits = lit< tt; c_fits = lit< tt };
       begin_fits = λ phase v s phase_fits v_fits s_fits awake. s_fits;
       carry_fits = λ phase v s phase_fits v_fits s_fits awake. lit< tt;
       edge_fits = λ carry dir entry carry_fits target_fits weight_fits. carry_fits;
       receive_fits = λ s m s_fits m_fits. s_fits;
+      combine_fits = λ x y x_fits y_fits. x_fits;
       bid_fits = λ s s_fits. tt;
       show_fits = λ s s_fits. s_fits.a_fits;
     } };
@@ -60,6 +63,10 @@ impl Program for Idle {
 
     fn receive(&self, s: VState, _m: u64) -> VState {
         s
+    }
+
+    fn combine(&self, x: u64, _y: u64) -> u64 {
+        x
     }
 
     fn wake(&self, _phase: u64, _s: VState) -> bool {

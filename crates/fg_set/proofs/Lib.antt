@@ -7,3 +7,4 @@ pub mod SoundLemmas
 pub mod CauseLemmas
 pub mod DirectoryLemmas
 pub mod PlacedLemmas
+pub mod KeepLemmas

@@ -4,7 +4,8 @@ use Rattle.std.proofs.lemmas.Bool.{cases_Bool, both_ways, eq-eqb}
 use Rattle.fg_set.specs.Change.{PlacedTells}
 use Rattle.fg_set.specs.DirectoryStep.{ended}
 use Rattle.fg_set.specs.Entry.{is_loading, is_state_loading}
-use Rattle.fg_set.specs.PageSet.{PageSet, entry_at}
+use Rattle.fg_set.specs.PageSet.{PageSet, entry_at, with_entry}
+use Rattle.fg_set.specs.declared.entry.Entry.{Entry}
 use Rattle.fg_set.specs.declared.answers.Placed.TheVariants as placed
 use Rattle.fg_set.specs.declared.entry.EntryState.{EntryState}
 use Rattle.fg_set.specs.declared.entry.EntryState.TheVariants.{Loading}
@@ -23,9 +24,10 @@ done_exactly frame page set changed =
       )
     ]
 
-pub placed_tells : (frame page : ℕ) (set changed : PageSet) → PlacedTells frame page set (ended frame page set changed).after (ended frame page set changed).answer
-placed_tells frame page set changed =
+pub placed_tells : (frame page : ℕ) (becomes : Entry → Entry) (set : PageSet) →
+    let end = ended frame page set (with_entry set frame (becomes (entry_at set frame))) in PlacedTells frame page becomes set end.after end.answer
+placed_tells frame page becomes set =
     elim (cases_Bool (is_loading page (entry_at set frame))) [
-      | inl coming ↦ rw coming (loading_state page (entry_at set frame).state coming)
+      | inl coming ↦ rw coming (loading_state page (entry_at set frame).state coming, refl)
       | inr other ↦ rw other (refl, (λ e. both_ways (is_loading page (entry_at set frame)) other (is_coming page (entry_at set frame).state e)), refl)
     ]

@@ -49,7 +49,7 @@ sound-change old new frame sound change may = record {
   ];
 }
 
-change-with_entry : (old : PageSet) (frame : ℕ) (entry : Entry) → IsSound old → ChangesOne old (with_entry old frame entry) frame
+pub change-with_entry : (old : PageSet) (frame : ℕ) (entry : Entry) → IsSound old → ChangesOne old (with_entry old frame entry) frame
 change-with_entry old frame entry sound = record {
   ways = length-set old.entries frame entry;
   workers = refl;
@@ -69,7 +69,7 @@ sound-with_entry old frame entry sound within bits pinned_ready same_page =
       alone = λ other page ne has has_other. ne (sound.apart other frame page has_other (same_page page has));
     }))
 
-listed : (old : PageSet) (other page : ℕ) → page_of (entry_at old other) ≡ Some page → IsListed old page
+pub listed : (old : PageSet) (other page : ℕ) → page_of (entry_at old other) ≡ Some page → IsListed old page
 listed old other page has = elim (cases_lt other (ways_of old)) [
   | inl h ↦ (other, entry_at old other, h, get_or_default old.entries other (entry_at old other) blank h, has)
   | inr over ↦ absurd (let e : None ≡ Some page = rw (get_or_past old.entries other blank over) at has in let no_page : ⊥ = cc in no_page)
@@ -98,7 +98,7 @@ sound-new ways workers some few few_workers =
 
 -- ---- `want`
 
-tells_sound : (worker page : ℕ) (old new : PageSet) (answer : WantSeen) → IsSound old → AnswerTells worker page old new answer → IsSound new
+pub tells_sound : (worker page : ℕ) (old new : PageSet) (answer : WantSeen) → IsSound old → AnswerTells worker page old new answer → IsSound new
 tells_sound worker page old new (seen.Hit frame) sound hits =
     let entry = entry_at old frame in
     rw hits.used (sound-with_entry old frame (used_by worker entry) sound hits.within

@@ -44,9 +44,9 @@ held_state (Ready p) false full taken = absurd (false≢true (sym taken))
 
 -- ---- the chain of cases, from the last one up
 
-took : (worker page : ℕ) (s : PageSet) (end : Turn) (frame : ℕ) → IsSound s → ¬ IsListed s page → TurnTells page s.entries end → end.taken ≡ Some frame →
+took : (worker page : ℕ) (s : PageSet) (end : Turn) (frame : ℕ) → IsSound s → ¬ IsListed s page → Fails is_empty s → TurnTells page s.entries end → end.taken ≡ Some frame →
     AnswerTells worker page s (record s { entries = end.entries; hand = end.hand }) (turn_answer end.taken)
-took worker page s end frame sound unlisted tells taken =
+took worker page s end frame sound unlisted full tells taken =
     let takes : Takes page s.entries end.entries frame = rw taken at tells.takes in
     rw taken (record {
       within = takes.within;
@@ -56,6 +56,7 @@ took worker page s end frame sound unlisted tells taken =
       pins = takes.pins;
       unpinned = rw takes.pins (free_parts (entry_at s frame) takes.free).1;
       change = record { ways = tells.ways; workers = refl; hand = omega (arith, tells.hand, tells.ways); others = takes.others };
+      empty_first = λ k h is. absurd (both_ways (is_empty (entry_at s k)) (full k blank h) is);
     })
 
 held_tells : (worker page : ℕ) (s : PageSet) → IsSound s → ¬ IsListed s page → Fails is_empty s → (free : Bool) → list_any is_free s.entries ≡ free →
@@ -72,7 +73,7 @@ held_tells worker page s sound unlisted full true free =
     let some = Any-from_list_any is_free s.entries free in
     let at : get_or s.entries some.0 blank ≡ some.1 = get_or_default s.entries some.0 blank some.1 some.2 ∙ some.3 in
     let finds = turn_finds page s.entries s.hand some.0 sound.hand_within some.2 (rw at some.4) in
-    took worker page s (turn (2 * ways_of s) page s.entries s.hand) finds.0 sound unlisted
+    took worker page s (turn (2 * ways_of s) page s.entries s.hand) finds.0 sound unlisted full
     (turn_tells (2 * ways_of s) page s.entries s.hand sound.hand_within) finds.1
 
 started_tells : (worker page : ℕ) (s : PageSet) → IsSound s → ¬ IsListed s page → (place : Option ℕ) → position is_empty s.entries ≡ place →
@@ -98,6 +99,7 @@ started_tells worker page s sound unlisted (Some frame) at =
         hand = rw (length-set s.entries frame (loading page old)) sound.hand_within;
         others = λ other ne. rw (get_or-set_other s.entries frame other (loading page old) blank ne) (same-refl (entry_at s other));
       };
+      empty_first = λ k h is. (found.1, refl);
     }
 
 under_way_tells : (worker page : ℕ) (s : PageSet) → IsSound s → Fails (is_ready page) s → (place : Option ℕ) → position (is_loading page) s.entries ≡ place →

@@ -35,7 +35,8 @@ impl Model for Directory {
 }
 
 impl Directory {
-    ghost use Rattle.fg_set.specs.Change.{AnswerTells, PlacedTells, IsReady};
+    ghost use Rattle.fg_set.specs.Change.{AnswerTells, PlacedTells, IsReady, ChangesOne, OneBecomes, KeepsPinned, ListsNoMore, ListsOneMore};
+    ghost use Rattle.fg_set.specs.Entry.{ready, emptied, unpinned_by, repaired_by};
     ghost use Rattle.fg_set.specs.DirectoryStep.{wanted, made_ready, failed, unpinned, repaired};
     ghost use Rattle.fg_set.specs.PageSet.{new_set, ways_of, entry_at, IsSound};
     ghost use Rattle.fg_set.specs.declared.answers.Placed.TheVariants as placed;
@@ -91,6 +92,8 @@ impl Directory {
 
         // what it tells of the entries
         ensures tells { AnswerTells worker page self.old self.new (seen_of result) }
+        ensures pinned { KeepsPinned self.old self.new }
+        ensures listed { ListsOneMore self.old self.new page }
         ensures ways { ways_of self.new ≡ ways_of self.old }
         ensures workers { self.new.workers ≡ self.old.workers }
         ensures sound { IsSound self.new }
@@ -113,7 +116,10 @@ impl Directory {
         ensures answer { result ≡ (made_ready frame page self.old).answer }
         ensures after { self.new ≡ (made_ready frame page self.old).after }
         ensures done_exactly { (result ≡ placed.Done) ↔ ((entry_at self.old frame).state ≡ state.Loading page) }
-        ensures tells { PlacedTells frame page self.old self.new result }
+        ensures tells { PlacedTells frame page (ready page) self.old self.new result }
+        ensures change { ChangesOne self.old self.new frame }
+        ensures pinned { KeepsPinned self.old self.new }
+        ensures listed { ListsNoMore self.old self.new }
         ensures ways { ways_of self.new ≡ ways_of self.old }
         ensures workers { self.new.workers ≡ self.old.workers }
         ensures sound { IsSound self.new }
@@ -128,7 +134,10 @@ impl Directory {
         ensures answer { result ≡ (failed frame page self.old).answer }
         ensures after { self.new ≡ (failed frame page self.old).after }
         ensures done_exactly { (result ≡ placed.Done) ↔ ((entry_at self.old frame).state ≡ state.Loading page) }
-        ensures tells { PlacedTells frame page self.old self.new result }
+        ensures tells { PlacedTells frame page emptied self.old self.new result }
+        ensures change { ChangesOne self.old self.new frame }
+        ensures pinned { KeepsPinned self.old self.new }
+        ensures listed { ListsNoMore self.old self.new }
         ensures ways { ways_of self.new ≡ ways_of self.old }
         ensures workers { self.new.workers ≡ self.old.workers }
         ensures sound { IsSound self.new }
@@ -142,6 +151,10 @@ impl Directory {
         requires worker { worker < self.old.workers }
         requires frame { frame < ways_of self.old }
         ensures after { self.new ≡ unpinned worker frame self.old }
+        ensures becomes { OneBecomes self.old self.new frame (unpinned_by worker) }
+        ensures change { ChangesOne self.old self.new frame }
+        ensures pinned { KeepsPinned self.old self.new }
+        ensures listed { ListsNoMore self.old self.new }
         ensures ways { ways_of self.new ≡ ways_of self.old }
         ensures workers { self.new.workers ≡ self.old.workers }
         ensures sound { IsSound self.new }
@@ -155,6 +168,10 @@ impl Directory {
         requires worker { worker < self.old.workers }
         requires frame { frame < ways_of self.old }
         ensures after { self.new ≡ repaired worker frame self.old }
+        ensures becomes { OneBecomes self.old self.new frame (repaired_by worker) }
+        ensures change { ChangesOne self.old self.new frame }
+        ensures pinned { KeepsPinned self.old self.new }
+        ensures listed { ListsNoMore self.old self.new }
         ensures ways { ways_of self.new ≡ ways_of self.old }
         ensures workers { self.new.workers ≡ self.old.workers }
         ensures sound { IsSound self.new }

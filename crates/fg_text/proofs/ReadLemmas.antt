@@ -11,7 +11,7 @@ use Rattle.fg_base.specs.declared.refusal.Refusal.TheVariants.{Memory, InputFaul
 use Rattle.fg_base.proofs.GrowthLemmas.{led_to_end}
 use Rattle.fg_text.specs.declared.reader.Reader.{Reader}
 use Rattle.fg_text.specs.Pieces.{IsAtEnd, IsOverlong, PiecesRefused, Took, TookFront}
-use Rattle.fg_text.specs.Read.{ReadRefused, RefusesText, SaysRefusal}
+use Rattle.fg_text.specs.Read.{ReadRefused, RefusesText, SaysRefusal, StopsFor}
 use Rattle.fg_text.specs.Reader.{IsRefused, Refuses, line_ends, reads_on}
 use Rattle.fg_text.specs.Text.{cut_text, read_text, whole_text}
 use Rattle.fg_text.proofs.ReaderLemmas.{start_of, text_cut, text_whole}
@@ -102,3 +102,14 @@ end_refused undirected after old new faults later taken (BadLine line) took fits
 end_refused undirected after old new faults later taken (IdTooLarge line) took fits end kept is = (kept, last_refused undirected after old new line (IdTooLarge line) taken took fits end is)
 end_refused undirected after old new faults later taken (TooManyEdges line) took fits end kept is = (kept, last_refused undirected after old new line (TooManyEdges line) taken took fits end is)
 end_refused undirected after old new faults later taken refusal took fits end kept is = absurd is
+
+-- how much was taken, by why the text was refused
+pub stops_for : (undirected : Bool) (old new : Option (List ℕ)) (before after : ℕ) (refusal : Refusal) → TookFront old new → ReadRefused undirected old new before after refusal
+    → StopsFor old new refusal
+stops_for undirected old new before after Memory front why = front
+stops_for undirected old new before after InputFault front why = front
+stops_for undirected old new before after (BadLine line) front why = why.1.stops
+stops_for undirected old new before after (IdTooLarge line) front why = why.1.stops
+stops_for undirected old new before after (TooManyEdges line) front why = why.1.stops
+stops_for undirected old new before after TextTooLong front why = why.2
+stops_for undirected old new before after refusal front why = absurd why

@@ -5,7 +5,7 @@ use Rattle.fg_base.specs.Told.{led_by}
 use Rattle.fg_base.specs.declared.limits.TheConstants.{MAX_TEXT_BYTES}
 use Rattle.fg_base.specs.declared.refusal.Refusal.{Refusal}
 use Rattle.fg_base.specs.declared.refusal.Refusal.TheVariants.{Memory, InputFault, BadLine, IdTooLarge, TooManyEdges, TextTooLong}
-use Rattle.fg_text.specs.Pieces.{IsAtEnd}
+use Rattle.fg_text.specs.Pieces.{IsAtEnd, TookFront}
 use Rattle.fg_text.specs.Reader.{line_ends}
 use Rattle.fg_text.specs.Text.{read_text}
 
@@ -41,3 +41,12 @@ ReadRefused undirected old new before after (IdTooLarge line) = (after ≡ befor
 ReadRefused undirected old new before after (TooManyEdges line) = (after ≡ before) × RefusesText undirected old new line (TooManyEdges line)
 ReadRefused undirected old new before after TextTooLong = (after ≡ before) × SaysRefusal undirected old TextTooLong × StopsSoon old new
 ReadRefused undirected old new before after refusal = ⊥
+
+-- how much of the input was taken where a text was refused so: nothing behind the piece in which the refused line ended, or no
+-- more than a piece beyond the bytes that a text may have; where the text isn't the cause, some first part of it
+abbrev pub StopsFor : Option (List ℕ) → Option (List ℕ) → Refusal → Type 0
+StopsFor old new (BadLine line) = StopsBehind line old new
+StopsFor old new (IdTooLarge line) = StopsBehind line old new
+StopsFor old new (TooManyEdges line) = StopsBehind line old new
+StopsFor old new TextTooLong = StopsSoon old new
+StopsFor old new refusal = TookFront old new

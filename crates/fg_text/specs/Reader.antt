@@ -1,5 +1,5 @@
 -- What reading on comes to, from where a reader stands.
-use Rattle.std.specs.Prelude.{◌≡◌, ℕ, ◌<◌, ◌≤◌, All, Bool, false, cond, Result, Err, List, [], ◌∷◌, count_by}
+use Rattle.std.specs.Prelude.{◌≡◌, ℕ, ◌+◌, ◌<◌, ◌≤◌, ◌++◌, All, Bool, false, cond, Result, Err, List, [], ◌∷◌, count_by}
 use Rattle.fg_base.specs.declared.limits.TheConstants.{MAX_ENTRIES}
 use Rattle.fg_base.specs.declared.refusal.Refusal.{Refusal}
 use Rattle.fg_base.specs.declared.refusal.Refusal.TheVariants.{Memory, BadLine, IdTooLarge, TooManyEdges}
@@ -48,3 +48,11 @@ HasNoRoom number count refusal = ⊥
 -- bytes within a line
 abbrev pub AreWithinLine : List ℕ → Type 0
 AreWithinLine bytes = All (λ byte. is_line_end byte ≡ false) bytes
+
+-- reading on from where one reader stands, behind these bytes, comes to the same as from where another stands, behind those
+abbrev pub ReadsSame : Reader → List ℕ → Reader → List ℕ → Type 0
+ReadsSame one bytes other others = (whole : Bool) (rest : List ℕ) → reads_on whole one (bytes ++ rest) ≡ reads_on whole other (others ++ rest)
+
+-- why reading these bytes ended: want of memory, or a line that ends in them is refused
+abbrev pub RefusesWithin : Reader → List ℕ → Refusal → Type 0
+RefusesWithin reader bytes = Refuses reader.number (reader.number + line_ends bytes) (λ whole rest. reads_on whole reader (bytes ++ rest))

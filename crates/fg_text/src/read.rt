@@ -2,7 +2,7 @@
 
 ghost use Rattle.std.specs.Prelude.{◌≡◌, IfErr, IfOk, IfSome, OnOk};
 ghost use Rattle.fg_text.specs.Pieces.{IsAtEnd, TookFront};
-ghost use Rattle.fg_text.specs.Read.{ReadRefused};
+ghost use Rattle.fg_text.specs.Read.{ReadRefused, StopsFor};
 ghost use Rattle.fg_text.specs.Text.{read_text};
 
 use crate::pieces::{PIECE_BYTES, read_pieces};
@@ -31,6 +31,9 @@ pub fn read_edges<S: Source>(
 
     // Each refusal has its cause.
     ensures refused { IfErr result (ReadRefused undirected (S.left input.old) (S.left input.new) (S.faults input.old) (S.faults input.new)) }
+
+    // At a refused line reading stopped with the piece in which it ends.
+    ensures stops { IfErr result (StopsFor (S.left input.old) (S.left input.new)) }
 
     // Whatever the answer, some first part of the text was taken.
     ensures front { TookFront (S.left input.old) (S.left input.new) }

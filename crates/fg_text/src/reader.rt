@@ -26,7 +26,7 @@ impl Reader {
     ghost use Rattle.fg_text.specs.declared.line.Line.TheVariants.{Start};
     ghost use Rattle.fg_text.specs.Gathered.{pairs_of, with_edges};
     ghost use Rattle.fg_text.specs.Line.{line_after};
-    ghost use Rattle.fg_text.specs.Reader.{AreWithinLine, HasNoRoom, Refuses, line_ends, reads_on};
+    ghost use Rattle.fg_text.specs.Reader.{AreWithinLine, HasNoRoom, ReadsSame, Refuses, RefusesWithin, line_ends, reads_on};
     ghost use Rattle.fg_text.specs.Text.{whole_text};
 
     /// A reader at the beginning of a text.
@@ -121,9 +121,9 @@ impl Reader {
         requires number { self.old.number + 1 < 2 ^ 64 }
         ensures some { IfOk result (λ count. 0 < count) }
         ensures within { IfOk result (λ count. count ≤ length bytes.now) }
-        ensures ok { IfOk result (λ count. (whole : Bool) (rest : List ℕ) → reads_on whole self.new (drop count bytes.now ++ rest) ≡ reads_on whole self.old (bytes.now ++ rest)) }
+        ensures ok { IfOk result (λ count. ReadsSame self.new (drop count bytes.now) self.old bytes.now) }
         ensures number { IfOk result (λ count. self.new.number + line_ends (drop count bytes.now) ≡ self.old.number + line_ends bytes.now) }
-        ensures refused { IfErr result (Refuses self.old.number (self.old.number + line_ends bytes.now) (λ whole rest. reads_on whole self.old (bytes.now ++ rest))) }
+        ensures refused { IfErr result (RefusesWithin self.old bytes.now) }
     {
         if bytes[0] != LINE_END {
             return Ok(self.take_bytes(bytes));
@@ -139,7 +139,7 @@ impl Reader {
         requires { self.old.number + length piece.now < 2 ^ 64 }
         ensures ok { OnOk result ((whole : Bool) (rest : List ℕ) → reads_on whole self.new rest ≡ reads_on whole self.old (piece.now ++ rest)) }
         ensures number { OnOk result (self.new.number ≡ self.old.number + line_ends piece.now) }
-        ensures refused { IfErr result (Refuses self.old.number (self.old.number + line_ends piece.now) (λ whole rest. reads_on whole self.old (piece.now ++ rest))) }
+        ensures refused { IfErr result (RefusesWithin self.old piece.now) }
     {
         let mut at = 0;
         while at < piece.len() {

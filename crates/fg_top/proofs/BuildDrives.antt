@@ -102,7 +102,7 @@ pub cause_of_building : {D : Type 0} (faults : D → ℕ) (drives : ℕ) (undire
     (refusal : Refusal) (olds betweens news : List D) → IfSome told (λ helds. length helds ≡ drives) → input.new_faults ≡ input.old_faults → NoneRose faults olds betweens →
     ReadCounts {A = ℕ} faults betweens news (Err refusal) → IsCause faults olds news (BuildComesTo drives undirected told input) (Some refusal) (refusal_line refusal)
 cause_of_building faults drives undirected told input Refusal.Memory olds betweens news many stood kept counts =
-    cut_build drives undirected told input (refusal_line Refusal.Memory) many stood
+    (EachSame-more faults olds betweens news kept counts, cut_build drives undirected told input (refusal_line Refusal.Memory) many stood)
 cause_of_building faults drives undirected told input (Refusal.DriveFault drive) olds betweens news many stood kept counts =
     (RoseFirst-after faults drive olds betweens news kept counts, cut_build drives undirected told input (refusal_line (Refusal.DriveFault drive)) many stood)
 cause_of_building faults drives undirected told input refusal olds betweens news many stood kept counts = absurd counts
@@ -127,7 +127,19 @@ building_not_held faults olds news Refusal.Memory counts is = cc
 building_not_held faults olds news (Refusal.DriveFault drive) counts is = cc
 building_not_held faults olds news refusal counts is = absurd counts
 
--- status 7 is that of the refusal whose line was written
+pub building_not_text : {D : Type 0} (faults : D → ℕ) (olds news : List D) (refusal : Refusal) → ReadCounts {A = ℕ} faults olds news (Err refusal) → status_of refusal ≢ 6
+building_not_text faults olds news Refusal.Memory counts is = cc
+building_not_text faults olds news (Refusal.DriveFault drive) counts is = cc
+building_not_text faults olds news refusal counts is = absurd counts
+
+-- statuses 6 and 7 are those of the refusal whose line was written
+pub text_status : (output : Output) (refusal : Refusal) (text : List ℕ) (status : ℕ) → IsWritten output (Some refusal) text status → status ≡ 6 → status_of refusal ≡ 6
+text_status output refusal text status written is =
+    elim written [
+      | inl whole ↦ sym whole.3 ∙ is
+      | inr failed ↦ let four : ◌≡◌ {A = ℕ} 4 6 = sym failed.2 ∙ is in cc
+    ]
+
 pub held_status : (output : Output) (refusal : Refusal) (text : List ℕ) (status : ℕ) → IsWritten output (Some refusal) text status → status ≡ 7 → status_of refusal ≡ 7
 held_status output refusal text status written is =
     elim written [

@@ -60,8 +60,7 @@ closes_so drives undirected told input close last closes = record { outcome = at
 pub cause_of_looking : {D : Type 0} (faults : D → ℕ) (olds news : List D) (undirected : Bool) (told : Option (List (List ℕ))) (input : Input) (refusal : Refusal) →
     IfSome told (λ helds. length helds ≡ length olds) → input.new_faults ≡ input.old_faults → EmptyCounts faults olds news (Err refusal) → IfSome told (λ helds. SaysEmpty (Err refusal) helds) →
     IsCause faults olds news (BuildComesTo (length olds) undirected told input) (Some refusal) (refusal_line refusal)
-cause_of_looking faults olds news undirected told input Refusal.Memory many stood counts says =
-    cut_build (length olds) undirected told input (refusal_line Refusal.Memory) many stood
+cause_of_looking faults olds news undirected told input Refusal.Memory many stood counts says = absurd counts
 cause_of_looking faults olds news undirected told input (Refusal.DriveFault drive) many stood counts says =
     (counts, cut_build (length olds) undirected told input (refusal_line (Refusal.DriveFault drive)) many stood)
 cause_of_looking faults olds news undirected told input (Refusal.NotEmpty drive) many stood counts says =
@@ -88,7 +87,7 @@ pub cause_of_text : {D : Type 0} (faults : D → ℕ) (olds news : List D) (driv
     (refusal : Refusal) → IfSome told (λ helds. length helds ≡ drives) → NoneRose faults olds news → IfSome told AreEmpty → ReadRefused undirected old new before after refusal →
     IsCause faults olds news (BuildComesTo drives undirected told (input_over old before after)) (Some refusal) (refusal_line refusal)
 cause_of_text faults olds news drives undirected told old new before after Refusal.Memory many kept empty why =
-    cut_build drives undirected told (input_over old before after) (refusal_line Refusal.Memory) many why
+    (kept, cut_build drives undirected told (input_over old before after) (refusal_line Refusal.Memory) many why)
 cause_of_text faults olds news drives undirected told old new before after Refusal.InputFault many kept empty why = (
   kept,
   closes_so drives undirected told (input_over old before after) (Refuses Refusal.InputFault) (refusal_line Refusal.InputFault) (inr (empty, inl (why.1, refl))),
@@ -114,7 +113,12 @@ pub text_not_output : (undirected : Bool) (old new : Option (List ℕ)) (before 
 text_not_output undirected old new before after refusal why is =
     let P : Refusal → Type 0 = λ refusal. ReadRefused undirected old new before after refusal in subst P is why
 
--- nor for what the drives hold
+pub looking_not_text : {D : Type 0} (faults : D → ℕ) (olds news : List D) (refusal : Refusal) → EmptyCounts faults olds news (Err refusal) → status_of refusal ≢ 6
+looking_not_text faults olds news (Refusal.NotEmpty drive) counts is = cc
+looking_not_text faults olds news (Refusal.DriveFault drive) counts is = cc
+looking_not_text faults olds news refusal counts is = absurd counts
+
+-- nor reading for what the drives hold
 pub text_not_held : (undirected : Bool) (old new : Option (List ℕ)) (before after : ℕ) (refusal : Refusal) →
     ReadRefused undirected old new before after refusal → status_of refusal ≢ 7
 text_not_held undirected old new before after Refusal.Memory why is = cc

@@ -1,5 +1,5 @@
 -- Ends of a job, put together from what its stages did.
-use Rattle.std.proofs.Common.{◌≡◌, ◌∙◌, ℕ, zero, suc, ◌+◌, Bool, Option, None, Some, List, [], ◌∷◌, ◌++◌, length, take, refl, sym, ap, subst, inl, inr, append_assoc}
+use Rattle.std.proofs.Common.{◌≡◌, ◌≢◌, ◌∙◌, ⊎_elim, ℕ, zero, suc, ◌+◌, Bool, Option, None, Some, List, [], ◌∷◌, ◌++◌, length, take, refl, sym, ap, subst, inl, inr, append_assoc}
 use Rattle.std.proofs.Math.Seq.{take-append-add}
 use Rattle.std.specs.List.{concat}
 use Rattle.fg_base.specs.Faults.{Rose}
@@ -13,6 +13,7 @@ use Rattle.fg_outside.proofs.DriveLemmas.{EachSame-more, RoseFirst-after}
 use Rattle.fg_report.specs.Refusals.{refusal_line}
 use Rattle.fg_top.specs.Ends.{Ends, EndsAlone, EndsLeaving, IsCause, IsCutShort, IsOutcome, IsWritten, Output, output_between}
 use Rattle.fg_top.specs.Outcome.{Close, Done, Outcome, at_once}
+use Rattle.fg_top.specs.Tallies.{CameToEnd}
 
 -- an outcome with these texts before its own
 abbrev pub behind : List (List ℕ) → Outcome → Outcome
@@ -67,7 +68,7 @@ cause_behind faults olds betweens news comes other first more kept None text cau
   record { last = cause.1.last; is_outcome = outcome_behind comes other first more _ cause.1.last text cause.1.is_outcome },
 )
 cause_behind faults olds betweens news comes other first more kept (Some Refusal.Memory) text cause =
-    cut_behind comes other first more (refusal_line Refusal.Memory) text cause
+    (EachSame-more faults olds betweens news kept cause.0, cut_behind comes other first more (refusal_line Refusal.Memory) text cause.1)
 cause_behind faults olds betweens news comes other first more kept (Some Refusal.OutputFault) text cause = cause
 cause_behind faults olds betweens news comes other first more kept (Some (Refusal.DriveFault drive)) text cause = (
   RoseFirst-after faults drive olds betweens news kept cause.0,
@@ -89,7 +90,7 @@ cause_in_memory : {D : Type 0} (faults : D → ℕ) (olds news : List D) (comes 
 cause_in_memory faults olds news comes other more kept None text cause =
     (kept, record { last = cause.1.last; is_outcome = outcome_behind comes other [] more _ cause.1.last text cause.1.is_outcome })
 cause_in_memory faults olds news comes other more kept (Some Refusal.Memory) text cause =
-    cut_behind comes other [] more (refusal_line Refusal.Memory) text cause
+    (kept, cut_behind comes other [] more (refusal_line Refusal.Memory) text cause.1)
 cause_in_memory faults olds news comes other more kept (Some Refusal.OutputFault) text cause = cause
 cause_in_memory faults olds news comes other more kept (Some (Refusal.DriveFault drive)) text cause =
     absurd (none_rises {D = ℕ} (λ drive. drive) drive cause.0)
@@ -122,15 +123,15 @@ ends_behind faults olds betweens news comes other own leaves first f0 f1 f2 t0 t
   written = written_behind f0 f1 f2 t0 t1 t2 back ends.end (concat first) ends.text status same grew ends.written;
 }
 
--- a job that ends at once where a put fails: some first part of its first texts was written
+-- a job that ends at once where a put fails, and no drive did: some first part of its first texts was written
 pub ends_given_up : {D : Type 0} (faults : D → ℕ) (olds news : List D) (comes : Outcome → Type 0) (leaves : Option Refusal → Type 0) (outcome : Outcome) (count : ℕ)
-    (f0 f1 : ℕ) (t0 t1 : Option (List ℕ)) (back : Bool) (status : ℕ) → comes outcome → leaves (Some Refusal.Memory) → Rose f0 f1 →
+    (f0 f1 : ℕ) (t0 t1 : Option (List ℕ)) (back : Bool) (status : ℕ) → comes outcome → NoneRose faults olds news → leaves (Some Refusal.Memory) → Rose f0 f1 →
     GrewByFirst (concat (take count outcome.lines)) t0 t1 → status ≡ 4 →
     Ends faults olds news comes leaves (output_between f0 f1 t0 t1 back) status
-ends_given_up faults olds news comes leaves outcome count f0 f1 t0 t1 back status is left rose grew failed = record {
+ends_given_up faults olds news comes leaves outcome count f0 f1 t0 t1 back status is kept left rose grew failed = record {
   end = Some Refusal.Memory;
   text = concat (take count outcome.lines) ++ refusal_line Refusal.Memory;
-  cause = record { outcome = outcome; is_one = is; count = count; text_is = refl };
+  cause = (kept, record { outcome = outcome; is_one = is; count = count; text_is = refl });
   left = left;
   written = inr (rose, grew_before (concat (take count outcome.lines)) (refusal_line Refusal.Memory) t0 t1 grew, failed);
 }
@@ -156,6 +157,8 @@ refusal_status Refusal.BadSections is = cc
 refusal_status (Refusal.BadIndex dir place) is = cc
 refusal_status (Refusal.BadSource source n) is = cc
 refusal_status (Refusal.BadEdge edge) is = cc
+refusal_status (Refusal.BadPadding page) is = cc
+refusal_status (Refusal.NotMirror v) is = cc
 
 -- where a refusal ended the work the status isn't 0
 pub refused_status : (output : Output) (refusal : Refusal) (text : List ℕ) (status : ℕ) → IsWritten output (Some refusal) text status → status ≡ 0 → ⊥
@@ -163,6 +166,15 @@ refused_status output refusal text status written is_zero =
     elim written [
       | inl whole ↦ refusal_status refusal (sym whole.3 ∙ is_zero)
       | inr failed ↦ let four : ◌≡◌ {A = ℕ} 4 0 = sym failed.2 ∙ is_zero in cc
+    ]
+
+-- where a refusal with another status ended the work, the status isn't that of a work that came to its end
+pub not_come : (output : Output) (refusal : Refusal) (text : List ℕ) (status : ℕ) → status_of refusal ≢ 0 → status_of refusal ≢ 8 →
+    IsWritten output (Some refusal) text status → CameToEnd status → ⊥
+not_come output refusal text status not_zero not_eight written came =
+    elim written [
+      | inl whole ↦ ⊎_elim (λ zero. not_zero (sym whole.3 ∙ zero)) (λ eight. not_eight (sym whole.3 ∙ eight)) came
+      | inr failed ↦ ⊎_elim (λ zero. let four : ◌≡◌ {A = ℕ} 4 0 = sym failed.2 ∙ zero in cc) (λ eight. let four : ◌≡◌ {A = ℕ} 4 8 = sym failed.2 ∙ eight in cc) came
     ]
 
 -- a job that is done, whose whole text comes at once

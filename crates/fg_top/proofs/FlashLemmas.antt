@@ -15,12 +15,12 @@ use Rattle.fg_top.specs.declared.jobs.JobFault.{JobFault}
 use Rattle.fg_top.specs.BuildOutcome.{Input, input_over}
 use Rattle.fg_top.specs.Ends.{EndsLeaving, IsCutShort, IsWritten, Output}
 use Rattle.fg_top.specs.GenOutcome.{IsGenerated}
-use Rattle.fg_top.specs.JobLeaves.{CountsInput, KeepsBy, LeavesAt, LeavesBy, TakesBy}
+use Rattle.fg_top.specs.JobLeaves.{CountsInput, KeepsBy, LeavesAt, LeavesBy, RefusesAsTold, StopsBy, TakesBy}
 use Rattle.fg_top.specs.JobOutcome.{ComesTo, GivenComesTo, JobComesTo}
 use Rattle.fg_top.specs.Jobs.{HasDrives}
 use Rattle.fg_top.specs.LargeOutcome.{generated_graph, recipe_for}
 use Rattle.fg_top.specs.Outcome.{Done, Refuses, at_once, outcome_on, wish_for}
-use Rattle.fg_top.specs.Reads.{ReadsBy, ref_reads}
+use Rattle.fg_top.specs.Reads.{KeepsLogsBy, ReadsBy, ref_reads}
 use Rattle.fg_top.specs.Running.{words_refusal}
 use Rattle.fg_top.specs.Words.{IsJobOf, job_of, names_of}
 use Rattle.fg_top.proofs.BuildDrives.{kept_unbuilt, leaves_held}
@@ -76,7 +76,7 @@ pub ends_unread : {D : Type 0} (held : D → Option (List ℕ)) (faults : D → 
 ends_unread held faults words drives told left count JobFault.Memory olds output status many is written = record {
   end = Some Refusal.Memory;
   text = refusal_line Refusal.Memory;
-  cause = cut_given (job_of words) drives told left count (refusal_line Refusal.Memory) many;
+  cause = (held_same faults olds, cut_given (job_of words) drives told left count (refusal_line Refusal.Memory) many);
   left = leaves_refused_at held faults (job_of words) (input_over left count count) olds Refusal.Memory (refusal_line Refusal.Memory);
   written = written;
 }
@@ -99,6 +99,21 @@ pub generates_nothing : (words : List (List ℕ)) (fault : JobFault) (output : O
 generates_nothing words JobFault.Memory output status is no_memory = absurd (no_memory refl)
 generates_nothing words (JobFault.Words fault) output status is no_memory =
     let P : Result Job WordFault → Type 0 = λ given. IsGenerated given output status in
+    subst P (sym is) tt
+
+-- nor read a text
+pub stops_nothing : (words : List (List ℕ)) (fault : JobFault) (old new : Option (List ℕ)) (before after : ℕ) → IsJobOf words (Err fault) → fault ≢ JobFault.Memory →
+    StopsBy (job_of words) old new before after
+stops_nothing words JobFault.Memory old new before after is no_memory = absurd (no_memory refl)
+stops_nothing words (JobFault.Words fault) old new before after is no_memory =
+    let P : Result Job WordFault → Type 0 = λ given. StopsBy given old new before after in
+    subst P (sym is) tt
+
+pub words_not_told : {D : Type 0} (told : D → ℕ) (words : List (List ℕ)) (fault : JobFault) (olds news : List D) → IsJobOf words (Err fault) → fault ≢ JobFault.Memory →
+    RefusesAsTold told (job_of words) olds news
+words_not_told told words JobFault.Memory olds news is no_memory = absurd (no_memory refl)
+words_not_told told words (JobFault.Words fault) olds news is no_memory =
+    let P : Result Job WordFault → Type 0 = λ given. RefusesAsTold told given olds news in
     subst P (sym is) tt
 
 -- drives to which nothing happened are as each job may leave them
@@ -133,6 +148,14 @@ reads_nothing {D} log given (Some helds) olds = nothing given where
   nothing (Ok (Job.Ref pick max each quiet)) = LogsGrewByFirst-none log (ref_reads (wish_for pick max each quiet) helds) olds
   nothing (Ok (Job.Gen start nodes edges)) = LogsGrew-none log olds
   nothing (Ok (Job.Large pick max unit undirected start nodes edges drives)) = LogsGrew-none log olds
+
+pub logs_nothing : {D : Type 0} (log : D → Option (List Read)) (given : Result Job WordFault) (olds : List D) → KeepsLogsBy log given olds olds
+logs_nothing log (Err fault) olds = held_same log olds
+logs_nothing log (Ok (Job.Build unit number undirected)) olds = held_same log olds
+logs_nothing log (Ok (Job.Run pick max each quiet)) olds = tt
+logs_nothing log (Ok (Job.Ref pick max each quiet)) olds = tt
+logs_nothing log (Ok (Job.Gen start nodes edges)) olds = held_same log olds
+logs_nothing log (Ok (Job.Large pick max unit undirected start nodes edges drives)) olds = held_same log olds
 
 -- nor takes anything of the input
 pub takes_nothing : (given : Result Job WordFault) (left : Option (List ℕ)) → TakesBy given left left

@@ -46,15 +46,15 @@ some_run-is wish (Some helds) run_of = refl
 -- the job ends where the put of the head failed
 pub ends_at_head : {D : Type 0} (faults : D → ℕ) (olds news : List D) (wish : Wish) (told : Option (List (List ℕ))) (header : Header) (run_of : List (List ℕ) → Run)
     (leaves : Option Refusal → Type 0) (f0 f1 : ℕ) (t0 t1 : Option (List ℕ)) (back : Bool) (status : ℕ) →
-    IfSome told (λ helds. outcome_of wish helds ≡ run_outcome wish (head_of wish.pick header) (run_of helds)) → leaves (Some Refusal.Memory) → Rose f0 f1 →
+    IfSome told (λ helds. outcome_of wish helds ≡ run_outcome wish (head_of wish.pick header) (run_of helds)) → NoneRose faults olds news → leaves (Some Refusal.Memory) → Rose f0 f1 →
     GrewByFirst (head_of wish.pick header) t0 t1 → status ≡ 4 →
     Ends faults olds news (WishComesTo wish told) leaves (output_between f0 f1 t0 t1 back) status
-ends_at_head faults olds news wish told header run_of leaves f0 f1 t0 t1 back status so left rose grew failed =
+ends_at_head faults olds news wish told header run_of leaves f0 f1 t0 t1 back status so kept left rose grew failed =
     let head = head_of wish.pick header in
     let run = some_run wish told (λ helds. behind_head (rules_of wish.pick) wish (run_of helds)) in
     let Of : List ℕ → Type 0 = λ text. GrewByFirst text t0 t1 in
     ends_given_up faults olds news (WishComesTo wish told) leaves (behind (head ∷ []) run) 1 f0 f1 t0 t1 back status
-    (comes_behind_head wish told header run_of so run (some_run-is wish told run_of)) left rose (subst Of (sym (append-nil head)) grew) failed
+    (comes_behind_head wish told header run_of so run (some_run-is wish told run_of)) kept left rose (subst Of (sym (append-nil head)) grew) failed
 
 -- the end of the run behind the head is the job's end
 pub ends_after_head : {D : Type 0} (faults : D → ℕ) (olds betweens news : List D) (wish : Wish) (told again : Option (List (List ℕ))) (header : Header)

@@ -15,13 +15,13 @@ mod PagesEntries
 mod PagesFolding
 mod PagesIteration
 mod PagesOpening
-mod PagesPlaces
 mod PagesReads
 mod PagesSending
 mod PagesStretches
 mod PagesTold
 mod PagesVertices
 mod RunEnds
+mod TallyLemmas
 mod WordInput
 mod WordJobs
 pub mod WordLaws

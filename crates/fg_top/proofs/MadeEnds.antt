@@ -3,6 +3,7 @@ use Rattle.std.proofs.Common.{◌≡◌, ◌≢◌, ◌∙◌, ◌≤◌, ◌<�
 use Rattle.std.specs.List.{range_with_len}
 use Rattle.fg_base.specs.Faults.{Rose}
 use Rattle.fg_base.specs.Told.{grown}
+use Rattle.fg_base.specs.Refusal.{status_of}
 use Rattle.fg_base.specs.declared.refusal.Refusal.{Refusal}
 use Rattle.fg_build.specs.Answers.{ReadCounts}
 use Rattle.fg_build.specs.Building.{HoldImage, RoomyKeptForImage}
@@ -26,7 +27,7 @@ use Rattle.fg_top.specs.LargeOutcome.{LargeComesTo, edges_graph, generated_graph
 use Rattle.fg_top.specs.Meaning.{MeansWish}
 use Rattle.fg_top.specs.MadeDrives.{AreEmptyFor, HoldEdges, HoldGenerated, IsEmptyFor, OpenToEdges}
 use Rattle.fg_top.specs.Outcome.{Close, Counted, Outcome, Refuses, WishComesTo, at_once, held_graph, opened_graph, outcome_of, outcome_on}
-use Rattle.fg_top.specs.Tallies.{RoseByWish, Tallied}
+use Rattle.fg_top.specs.Tallies.{RoseByWish, RoseWithin, Tallied, begins_of}
 use Rattle.fg_top.proofs.MadeLaws.{drive_pages}
 
 -- one drive more
@@ -189,7 +190,8 @@ cause_undriven : {D : Type 0} (faults : D → ℕ) (olds news : List D) (comes o
     IsCause {D = ℕ} (λ drive. drive) [] [] other end text
 cause_undriven faults olds news comes other more never None text cause =
     (tt, record { last = cause.1.last; is_outcome = outcome_so comes other more _ cause.1.last text cause.1.is_outcome })
-cause_undriven faults olds news comes other more never (Some Refusal.Memory) text cause = cut_so comes other more (refusal_line Refusal.Memory) text cause
+cause_undriven faults olds news comes other more never (Some Refusal.Memory) text cause =
+    (tt, cut_so comes other more (refusal_line Refusal.Memory) text cause.1)
 cause_undriven faults olds news comes other more never (Some Refusal.OutputFault) text cause = cause
 cause_undriven faults olds news comes other more never (Some (Refusal.DriveFault drive)) text cause = absurd (never drive cause.0)
 cause_undriven faults olds news comes other more never (Some refusal) text cause = (tt, outcome_so comes other more _ (refusal_line refusal) text cause.1)
@@ -223,6 +225,12 @@ pub tally_generated : {D : Type 0} (held : D → Option (List ℕ)) (faults : D 
 tally_generated held faults plan recipe wish olds tally opens holds rose =
     known_generated held recipe olds (λ given. RoseByWish wish given tally) (gives_generated held faults plan recipe olds opens holds) rose
 
+pub went_generated : {D : Type 0} (held : D → Option (List ℕ)) (faults : D → ℕ) (plan : Plan) (recipe : Recipe) (wish : Wish) (olds : List D) (whole : Type 0) (tally : Tallied) →
+    ((edges : EdgeList) → AreEdges edges → OpenToEdges (all_drive_bytes plan edges) edges) → HoldGenerated held faults plan recipe olds →
+    IfSome (all_told held olds) (λ helds. RoseWithin whole (begins_of wish (held_graph helds)) tally) → RoseWithin whole (begins_of wish (generated_graph recipe)) tally
+went_generated held faults plan recipe wish olds whole tally opens holds rose =
+    known_generated held recipe olds (λ given. RoseWithin whole (begins_of wish given) tally) (gives_generated held faults plan recipe olds opens holds) rose
+
 -- what the values mean of a run on drives that hold the generated edges
 pub means_generated : {D : Type 0} (held : D → Option (List ℕ)) (faults : D → ℕ) (plan : Plan) (recipe : Recipe) (wish : Wish) (olds : List D) →
     ((edges : EdgeList) → AreEdges edges → OpenToEdges (all_drive_bytes plan edges) edges) → HoldGenerated held faults plan recipe olds →
@@ -233,7 +241,8 @@ means_generated held faults plan recipe wish olds opens holds means =
 -- why edges weren't generated
 pub cause_of_generating : (wish : Wish) (recipe : Recipe) (refusal : Refusal) → MadeRefused recipe.undirected (generated_text recipe.start recipe.nodes recipe.edges) refusal →
     IsCause {D = ℕ} (λ drive. drive) [] [] (LargeComesTo wish recipe) (Some refusal) (refusal_line refusal)
-cause_of_generating wish recipe Refusal.Memory why = record { outcome = outcome_on wish (generated_graph recipe); is_one = refl; count = 0; text_is = refl }
+cause_of_generating wish recipe Refusal.Memory why =
+    (tt, record { outcome = outcome_on wish (generated_graph recipe); is_one = refl; count = 0; text_is = refl })
 cause_of_generating wish recipe (Refusal.TooManyEdges line) why =
     (tt, record { outcome = at_once (Refuses (Refusal.TooManyEdges line)); is_one = sym (ap (λ says. outcome_on wish (edges_graph says)) why); closes = refl; text_is = refl })
 cause_of_generating wish recipe refusal why = absurd why
@@ -241,3 +250,8 @@ cause_of_generating wish recipe refusal why = absurd why
 pub generating_not_output : (undirected : Bool) (text : List ℕ) (refusal : Refusal) → MadeRefused undirected text refusal → refusal ≢ Refusal.OutputFault
 generating_not_output undirected text refusal why is =
     let P : Refusal → Type 0 = λ refusal. MadeRefused undirected text refusal in subst P is why
+
+pub generating_not_graph : (undirected : Bool) (text : List ℕ) (refusal : Refusal) → MadeRefused undirected text refusal → status_of refusal ≢ 8
+generating_not_graph undirected text Refusal.Memory why is = cc
+generating_not_graph undirected text (Refusal.TooManyEdges line) why is = cc
+generating_not_graph undirected text refusal why is = absurd why

@@ -1,6 +1,7 @@
 -- What a job comes to, by what its drives open to and by its source.
-use Rattle.std.proofs.Common.{◌≡◌, ◌≢◌, ◌∙◌, ℕ, ◌<◌, ◌≤◌, Bool, true, false, Option, None, Some, IfSome, Ok, Err, List, [], ◌∷◌, nat_le, refl, sym, ap, subst, arith}
+use Rattle.std.proofs.Common.{◌≡◌, ◌≢◌, ◌∙◌, ℕ, ◌<◌, ◌≤◌, Bool, true, false, Option, None, Some, IfSome, Ok, Err, List, [], ◌∷◌, nat_le, if◌then◌else◌, refl, sym, ap, subst, arith}
 use Rattle.std.proofs.lemmas.Option.{same_Some}
+use Rattle.fg_base.specs.Refusal.{status_of}
 use Rattle.fg_base.specs.declared.plain.Value.{Value}
 use Rattle.fg_base.specs.declared.plain.VState.{VState}
 use Rattle.fg_base.specs.declared.refusal.Refusal.{Refusal}
@@ -8,15 +9,17 @@ use Rattle.fg_build.specs.declared.opened.Opened.{Opened}
 use Rattle.fg_build.specs.Answers.{IsOpening, OpeningCounts, ReadCounts}
 use Rattle.fg_build.specs.Opening.{opening_of}
 use Rattle.fg_image.specs.declared.header.Header.{Header}
-use Rattle.fg_model.specs.Run.{Run, Ending, Refused, Settled, Stopped}
+use Rattle.fg_model.specs.Iteration.{Begun}
+use Rattle.fg_model.specs.Run.{Run, Ending, Refused, Settled, Stopped, begun_of}
 use Rattle.fg_model.specs.declared.graph.Graph.{Graph}
 use Rattle.fg_outside.specs.Drives.{NoneRose}
-use Rattle.fg_outside.proofs.DriveLemmas.{RoseFirst-after}
+use Rattle.fg_outside.proofs.DriveLemmas.{EachSame-more, RoseFirst-after}
 use Rattle.fg_report.specs.Refusals.{refusal_line}
 use Rattle.fg_top.specs.declared.jobs.Wish.{Wish}
 use Rattle.fg_top.specs.Ends.{IsCause, IsCutShort, IsOutcome}
-use Rattle.fg_top.specs.Outcome.{Close, Done, IsOwnSource, MayComeTo, Outcome, Refuses, WishComesTo, at_once, head_of, opened_graph, outcome_of, outcome_on, rules_of, run_close, run_in, run_on, run_outcome, source_of, where_vertex}
+use Rattle.fg_top.specs.Outcome.{Close, Done, IsOwnSource, MayComeTo, Outcome, Refuses, WishComesTo, at_once, head_of, held_graph, opened_graph, outcome_of, outcome_on, rules_of, run_close, run_in, run_on, run_outcome, source_of, where_vertex}
 use Rattle.fg_top.specs.Running.{IsSourced, MayClose, RunComesTo}
+use Rattle.fg_top.specs.Tallies.{begin_where, begins_of}
 use Rattle.fg_top.proofs.EndLemmas.{behind}
 
 le_holds : (a b : ℕ) → a ≤ b → nat_le a b ≡ true
@@ -110,7 +113,7 @@ content faults olds news wish told refusal kept may opening =
 pub cause_of_opening : {D : Type 0} (faults : D → ℕ) (olds news : List D) (wish : Wish) (told : Option (List (List ℕ))) (refusal : Refusal) →
     OpeningCounts faults olds news (Err refusal) → IfSome told (λ helds. IsOpening (opening_of helds) (Err refusal)) →
     IsCause faults olds news (WishComesTo wish told) (Some refusal) (refusal_line refusal)
-cause_of_opening faults olds news wish told Refusal.Memory counts opening = cut_at_once wish told (refusal_line Refusal.Memory)
+cause_of_opening faults olds news wish told Refusal.Memory counts opening = (counts, cut_at_once wish told (refusal_line Refusal.Memory))
 cause_of_opening faults olds news wish told (Refusal.DriveFault drive) counts opening = (counts, cut_at_once wish told (refusal_line (Refusal.DriveFault drive)))
 cause_of_opening faults olds news wish told (Refusal.NoLabel drive) counts opening = content faults olds news wish told (Refusal.NoLabel drive) counts refl opening
 cause_of_opening faults olds news wish told (Refusal.WrongDrive drive found) counts opening = content faults olds news wish told (Refusal.WrongDrive drive found) counts refl opening
@@ -135,11 +138,50 @@ pub cause_of_source : {D : Type 0} (faults : D → ℕ) (olds news : List D) (wi
 cause_of_source faults olds news wish told opened source kept opening is above =
     (kept, closed (WishComesTo wish told) (Refuses (Refusal.BadSource source opened.header.n)) _ (comes_bad_source wish told opened source opening is above))
 
+-- then no iteration begins
+pub begins_none : (wish : Wish) (told : Option (List (List ℕ))) (opened : Opened) (source : ℕ) →
+    IfSome told (λ helds. opening_of helds ≡ Ok opened) → source_of wish.pick ≡ Some source → opened.header.n ≤ source →
+    IfSome told (λ helds. begins_of wish (held_graph helds) ≡ [])
+begins_none wish None opened source opening is above = tt
+begins_none wish (Some helds) opened source opening is above =
+    let no_vertex : nat_le opened.header.n source ≡ true = le_holds opened.header.n source above in
+    ap (λ given. begins_of wish (opened_graph helds given)) opening
+    ∙ ap (λ own. begin_where own opened.header.n (begun_of (run_on wish opened helds))) is
+    ∙ ap (λ refused. if refused then [] else begun_of (run_on wish opened helds)) no_vertex
+
+-- where the source is a vertex these are the iterations of the run
+pub begins_run : (wish : Wish) (opened : Opened) (helds : List (List ℕ)) → opening_of helds ≡ Ok opened → IsSourced wish.pick opened.header.n →
+    begins_of wish (held_graph helds) ≡ begun_of (run_on wish opened helds)
+begins_run wish opened helds opening sourced =
+    ap (λ given. begins_of wish (opened_graph helds given)) opening ∙ begin-sourced (begun_of (run_on wish opened helds)) (source_of wish.pick) opened.header.n sourced
+  where
+    begin-sourced : (begun : List Begun) (own : Option ℕ) (vertices : ℕ) → IfSome own (λ source. source < vertices) → begin_where own vertices begun ≡ begun
+    begin-sourced begun None vertices below = refl
+    begin-sourced begun (Some source) vertices below =
+        let vertex : nat_le vertices source ≡ false = le_fails vertices source below in
+        rw vertex refl
+
+-- no drives that weren't opened are refused for their graph
+pub opening_not_graph : {D : Type 0} (faults : D → ℕ) (olds news : List D) (refusal : Refusal) →
+    OpeningCounts faults olds news (Err refusal) → status_of refusal ≢ 8
+opening_not_graph faults olds news Refusal.Memory counts is = cc
+opening_not_graph faults olds news (Refusal.DriveFault drive) counts is = cc
+opening_not_graph faults olds news (Refusal.NoLabel drive) counts is = cc
+opening_not_graph faults olds news (Refusal.WrongDrive drive found) counts is = cc
+opening_not_graph faults olds news (Refusal.LabelDiffers drive) counts is = cc
+opening_not_graph faults olds news (Refusal.ShortDrive drive have need) counts is = cc
+opening_not_graph faults olds news Refusal.BadHeader counts is = cc
+opening_not_graph faults olds news (Refusal.BadVersion found) counts is = cc
+opening_not_graph faults olds news Refusal.BadSections counts is = cc
+opening_not_graph faults olds news (Refusal.BadIndex dir place) counts is = cc
+opening_not_graph faults olds news refusal counts is = absurd counts
+
 -- why drives that weren't read whole are refused
 pub cause_of_reading : {D : Type 0} (faults : D → ℕ) (olds betweens news : List D) (wish : Wish) (told : Option (List (List ℕ))) (refusal : Refusal) →
     NoneRose faults olds betweens → ReadCounts {D = D} {A = Graph} faults betweens news (Err refusal) →
     IsCause faults olds news (WishComesTo wish told) (Some refusal) (refusal_line refusal)
-cause_of_reading faults olds betweens news wish told Refusal.Memory kept counts = cut_at_once wish told (refusal_line Refusal.Memory)
+cause_of_reading faults olds betweens news wish told Refusal.Memory kept counts =
+    (EachSame-more faults olds betweens news kept counts, cut_at_once wish told (refusal_line Refusal.Memory))
 cause_of_reading faults olds betweens news wish told (Refusal.DriveFault drive) kept counts =
     (RoseFirst-after faults drive olds betweens news kept counts, cut_at_once wish told (refusal_line (Refusal.DriveFault drive)))
 cause_of_reading faults olds betweens news wish told refusal kept counts = absurd counts
@@ -149,6 +191,13 @@ pub reading_not_output : {D : Type 0} (faults : D → ℕ) (olds news : List D) 
     ReadCounts {D = D} {A = Graph} faults olds news (Err refusal) → refusal ≢ Refusal.OutputFault
 reading_not_output {D} faults olds news refusal counts is =
     let P : Refusal → Type 0 = λ refusal. ReadCounts {D = D} {A = Graph} faults olds news (Err refusal) in subst P is counts
+
+-- nor for what the drives hold
+pub reading_not_held : {D : Type 0} (faults : D → ℕ) (olds news : List D) (refusal : Refusal) →
+    ReadCounts {D = D} {A = Graph} faults olds news (Err refusal) → status_of refusal ≢ 7
+reading_not_held faults olds news Refusal.Memory counts is = cc
+reading_not_held faults olds news (Refusal.DriveFault drive) counts is = cc
+reading_not_held faults olds news refusal counts is = absurd counts
 
 -- a run closes as it may where nothing is told
 may_close : (quiet : Bool) (show : VState → Value) (ending : Ending) (iterations : ℕ) (states : List VState) →

@@ -1,7 +1,7 @@
 -- The active vertices, vertex after vertex.
-use Rattle.std.proofs.Common.{◌≡◌, ℕ, zero, suc, ◌+◌, ◌<◌, ◌≤◌, Bool, true, false, cond, List, [], ◌∷◌, ◌++◌, length, get_or, take, map, refl, ap, ◌∙◌, arith}
+use Rattle.std.proofs.Common.{◌≡◌, ℕ, zero, suc, ◌+◌, ◌-◌, ◌<◌, ◌≤◌, Bool, true, false, cond, List, [], ◌∷◌, ◌++◌, length, get_or, take, map, refl, ap, ◌∙◌, arith}
 use Rattle.std.specs.List.{enumerate_from, filter, range_with_len}
-use Rattle.std.proofs.lemmas.List.{take_more, length-take-le, map-append}
+use Rattle.std.proofs.lemmas.List.{length-append, length-map, take_more, length-take-le, map-append}
 use Rattle.std.proofs.lemmas.List.Elements.{filter-append}
 use Rattle.fg_base.specs.declared.plain.VState.{VState}
 use Rattle.fg_model.specs.Iteration.{active_vertices, own_state, state_at, states_after_runs}
@@ -87,3 +87,23 @@ at_most-one sender false = omega arith
 
 pub few-senders_of : (P : Rules) (phase v : ℕ) (s : VState) → length (senders_of P phase v s) ≤ 1
 few-senders_of P phase v s = at_most-one (record { v = v; carry = (P.begin phase v s).1 }) (P.wake phase s)
+
+senders-grow : (P : Rules) (phase : ℕ) (states : List VState) (v more : ℕ) → length (senders_below P phase states v) ≤ length (senders_below P phase states (v + more))
+senders-grow P phase states v zero =
+    let same : v + zero ≡ v = omega arith in
+    let long = ap (λ w. length (senders_below P phase states w)) same in
+    omega (arith, long)
+senders-grow P phase states v (suc more) =
+    let next : v + suc more ≡ v + more + 1 = omega arith in
+    let long = ap (λ w. length (senders_below P phase states w)) next in
+    let one = senders_of P phase (v + more) (state_at states (v + more)) in
+    let step = ap length (senders_below-more P phase states (v + more)) ∙ length-append (senders_below P phase states (v + more)) one in
+    omega (arith, senders-grow P phase states v more, long, step)
+
+-- there are no more senders among the first vertices than active vertices
+pub few-senders_below : (P : Rules) (phase : ℕ) (states : List VState) (v : ℕ) → v ≤ length states → length (senders_below P phase states v) ≤ length (active_vertices P phase states)
+few-senders_below P phase states v within =
+    let whole : v + (length states - v) ≡ length states = omega arith in
+    let all = ap (λ n. length (senders_below P phase states n)) whole in
+    let mapped = length-map (active_vertices P phase states) (sender_at P phase states) in
+    omega (arith, senders-grow P phase states v (length states - v), all, mapped)

@@ -5,24 +5,25 @@ use Rattle.std.proofs.lemmas.List.{length-map}
 use Rattle.std.proofs.lemmas.List.Folds.{flat_map-map}
 use Rattle.std.proofs.lemmas.List.FromFn.{length-enumerate_from}
 use Rattle.fg_base.specs.declared.plain.VState.{VState}
+use Rattle.fg_model.specs.declared.iteration.Counts.{Counts}
+use Rattle.fg_model.specs.Engine.{HasCounted, RoseUpTo}
 use Rattle.fg_model.specs.Iteration.{IsIteration, active_vertices, after, begun_at, first_bad, folded, mail, needed, states_after_runs}
 use Rattle.fg_model.specs.Program.{Rules}
 use Rattle.fg_model.specs.VertexRun.{edges_of, sent}
 use Rattle.fg_build.specs.declared.opened.Opened.{Opened}
 use Rattle.fg_image.specs.Lists.{graph_by}
 use Rattle.fg_top.specs.declared.send.Sender.{Sender}
-use Rattle.fg_top.specs.Asked.{IsAsked, IsPageForSome}
-use Rattle.fg_top.specs.AskedLaws.{OnlyRead-weaker}
-use Rattle.fg_top.specs.Lists.{graph_over}
-use Rattle.fg_top.specs.OnlyRead.{HasAsked, OnlyRead, Telling}
-use Rattle.fg_top.specs.Sending.{AreSent, first_bad_of, sender_at, vertex_of}
+use Rattle.fg_build.specs.Asked.{IsAsked, IsReadForSome, HasAsked}
+use Rattle.fg_build.proofs.AskedLaws.{OnlyRead-asked, OnlyRead-weaker}
+use Rattle.fg_build.specs.ToldImage.{graph_over}
+use Rattle.fg_build.specs.OnlyRead.{OnlyRead, Telling}
+use Rattle.fg_top.specs.Sending.{AreSent, edges_all, first_bad_of, sender_at, sent_all, vertex_of}
 use Rattle.fg_top.specs.Ready.{IsReady}
 use Rattle.fg_top.proofs.PagesBegin.{vertices-of_senders}
 use Rattle.fg_top.proofs.PagesReads.{HoldWhole-after}
 use Rattle.fg_build.specs.Answers.{HoldWhole}
 use Rattle.fg_outside.specs.Drives.{DriveRead, all_told}
 use Rattle.fg_outside.proofs.DriveLemmas.{all_told-same}
-use Rattle.fg_top.proofs.PagesVertices.{edges_all, sent_all}
 
 -- how many vertices the graph has
 pub vertices-on : (opened : Opened) (image : List ℕ) → (graph_over opened image).n ≡ length opened.index.outs
@@ -65,6 +66,38 @@ after-all : (P : Rules) (opened : Opened) (image : List ℕ) (phase : ℕ) (stat
 unfolding after
 after-all P opened image phase states = refl
 
+-- the senders, by equal states
+pub senders-moved : (P : Rules) (phase : ℕ) {slice states : List VState} → slice ≡ states →
+    map (sender_at P phase slice) (active_vertices P phase slice) ≡ map (sender_at P phase states) (active_vertices P phase states)
+senders-moved P phase moved = ap (λ these. map (sender_at P phase these) (active_vertices P phase these)) moved
+
+-- no more is counted than what began
+pub few_runs-begun : (P : Rules) (opened : Opened) (image : List ℕ) (phase : ℕ) (slice states : List VState) (old between new : ℕ) → slice ≡ states →
+    RoseUpTo (length (active_vertices P phase slice)) old between → new ≡ between → RoseUpTo (length (begun_at P (graph_over opened image) phase states).active) old new
+few_runs-begun P opened image phase slice states old between new moved rose same =
+    let begun = ap (λ these. length (active_vertices P phase these)) moved ∙ sym (ap length (begun-active P opened image phase states)) in
+    record { at_least = omega (arith, rose.at_least, same); at_most = omega (arith, rose.at_most, same, begun) }
+
+pub few_entries-begun : (P : Rules) (opened : Opened) (image : List ℕ) (phase : ℕ) (states : List VState) (senders : List Sender) (old between new : ℕ) →
+    senders ≡ map (sender_at P phase states) (active_vertices P phase states) → between ≡ old → RoseUpTo (length (edges_all P opened image senders)) between new →
+    RoseUpTo (begun_at P (graph_over opened image) phase states).messages old new
+few_entries-begun P opened image phase states senders old between new are same rose =
+    let begun = begun-messages P opened image phase states in
+    let all = ap length (needed-all P opened image phase states senders are) in
+    record { at_least = omega (arith, rose.at_least, same); at_most = omega (arith, rose.at_most, same, begun, all) }
+
+pub none_rose-up : (most old new : ℕ) → new ≡ old → RoseUpTo most old new
+none_rose-up most old new same = record { at_least = omega (arith, same); at_most = omega (arith, same) }
+
+-- what was counted is what began
+pub HasCounted-sent : (P : Rules) (opened : Opened) (image : List ℕ) (phase : ℕ) (states : List VState) (senders : List Sender) (counts : Counts) →
+    senders ≡ map (sender_at P phase states) (active_vertices P phase states) → counts.active ≡ length senders → counts.messages ≡ length (edges_all P opened image senders) →
+    HasCounted counts (begun_at P (graph_over opened image) phase states)
+HasCounted-sent P opened image phase states senders counts are counted messages_are = record {
+  active_count = counted ∙ ap length are ∙ length-map (active_vertices P phase states) (sender_at P phase states) ∙ ap length (sym (begun-active P opened image phase states));
+  message_count = messages_are ∙ ap length (needed-all P opened image phase states senders are) ∙ sym (begun-messages P opened image phase states);
+}
+
 -- what was run is the iteration of the definition
 pub IsIteration-sent : (P : Rules) (opened : Opened) (image : List ℕ) (phase : ℕ) (states own next : List VState) (senders : List Sender) (active messages : ℕ) →
     length states ≡ length opened.index.outs → own ≡ states_after_runs P phase states → senders ≡ map (sender_at P phase states) (active_vertices P phase states) →
@@ -83,19 +116,18 @@ IsIteration-sent P opened image phase states own next senders active messages wh
 -- the pages for the senders are asked for by this iteration
 pub HasAsked-iteration : {D : Type 0} (T : Telling D) (P : Rules) (opened : Opened) (image : List ℕ) (phase : ℕ) (states : List VState) (senders : List Sender) (olds first last news : List D) →
     first ≡ olds → news ≡ last → senders ≡ map (sender_at P phase states) (active_vertices P phase states) →
-    OnlyRead T (IsPageForSome opened.layout opened.index P.need (map vertex_of senders)) first last →
-    HasAsked T P (begun_at P (graph_over opened image) phase states ∷ []) opened opened olds news
+    OnlyRead T (IsReadForSome 1 opened.layout opened.index P.need (map vertex_of senders)) first last →
+    HasAsked 1 T P (begun_at P (graph_over opened image) phase states ∷ []) opened opened olds news
 HasAsked-iteration {D} T P opened image phase states senders olds first last news begins ends are reads =
     let begun = begun_at P (graph_over opened image) phase states in
     let vertices : map vertex_of senders ≡ begun.active = ap (map vertex_of) are ∙ vertices-of_senders P phase states (active_vertices P phase states) ∙ sym (begun-active P opened image phase states) in
-    let R : List ℕ → List D → List D → Type 0 = λ vs ones others. OnlyRead T (IsPageForSome opened.layout opened.index P.need vs) ones others in
+    let R : List ℕ → List D → List D → Type 0 = λ vs ones others. OnlyRead T (IsReadForSome 1 opened.layout opened.index P.need vs) ones others in
     let one : R begun.active first last = subst (λ vs. R vs first last) vertices reads in
     let two : R begun.active olds last = subst (λ ones. R begun.active ones last) begins one in
     let three : R begun.active olds news = subst (λ others. R begun.active olds others) (sym ends) two in
     record {
       same_opened = refl;
-      reads = OnlyRead-weaker T (IsPageForSome opened.layout opened.index P.need begun.active) (IsAsked opened.layout opened.index P (begun ∷ []))
-          (λ read page. record { iteration = begun; has_begun = (0, omega arith, refl); is_for_active = page }) olds news three;
+      reads = OnlyRead-asked 1 T opened.layout opened.index P (begun ∷ []) begun olds news (0, omega arith, refl) three;
     }
 
 -- the engine stays ready where its drives were only read

@@ -12,7 +12,8 @@ use Rattle.fg_build.specs.declared.opened.Opened.{Opened}
 use Rattle.fg_image.specs.Lists.{graph_by, rows_of}
 use Rattle.fg_image.proofs.EntryLaws.{length-entries_at}
 use Rattle.fg_index.specs.ImageIndex.{degrees_in}
-use Rattle.fg_top.specs.Lists.{graph_over, stretch_of}
+use Rattle.fg_build.specs.ToldImage.{graph_over}
+use Rattle.fg_top.specs.Lists.{stretch_of}
 use Rattle.fg_top.proofs.PagesVertices.{row-on}
 
 -- the first opening states, by the degrees

@@ -1,5 +1,5 @@
 -- Readings of drives, one after another.
-use Rattle.std.proofs.Common.{◌≡◌, ℕ, suc, ◌+◌, ◌*◌, ◌/◌, ◌<◌, ◌≤◌, Bool, true, false, List, length, refl, ap, ◌∙◌, lit<, arith}
+use Rattle.std.proofs.Common.{◌≡◌, ℕ, suc, ◌+◌, ◌*◌, ◌/◌, ◌<◌, ◌≤◌, Bool, true, false, List, length, refl, ap, ◌∙◌, lit<, lit≤, arith}
 use Rattle.std.proofs.Math.Nat.{mul-le-mul_right}
 use Rattle.std.specs.List.{Contains}
 use Rattle.fg_base.specs.declared.plain.Dir.{Dir}
@@ -14,10 +14,10 @@ use Rattle.fg_stripe.specs.declared.layout.Layout.{Layout}
 use Rattle.fg_stripe.specs.Striping.{pages_on}
 use Rattle.fg_top.specs.declared.lists.Part.{Part}
 use Rattle.fg_top.specs.declared.lists.Stretch.{Stretch}
-use Rattle.fg_top.specs.Asked.{IsPageFor, IsPageOf, dirs_of}
-use Rattle.fg_top.specs.AskedLaws.{OnlyRead-more, OnlyRead-weaker}
-use Rattle.fg_top.specs.Lists.{IsPartBehind, behind, stretch_of}
-use Rattle.fg_top.specs.OnlyRead.{IsPageIn, OnlyRead, Telling}
+use Rattle.fg_build.specs.Asked.{HoldsSome, IsReadFor, dirs_of}
+use Rattle.fg_build.proofs.AskedLaws.{OnlyRead-more, OnlyRead-needed, OnlyRead-one}
+use Rattle.fg_top.specs.Lists.{IsPartBehind, behind, stretch_of, IsPageIn}
+use Rattle.fg_build.specs.OnlyRead.{OnlyRead, Telling}
 
 pub some_bytes : (weighted : Bool) → 1 ≤ entry_bytes weighted
 some_bytes true = omega arith
@@ -45,24 +45,23 @@ part-within stretch part done pages is within =
     omega (arith, entry, some_bytes stretch.weighted, is.on_page)
 
 -- the page of a part is a page of its list
-IsPageIn-part : (layout : Layout) (stretch : Stretch) (part : Part) (done : ℕ) → IsPartBehind stretch done part →
-    (read : DriveRead) → read ≡ page_read layout.drives layout.unit part.page → IsPageIn layout stretch read
-IsPageIn-part layout stretch part done is read same =
+holds-part : (stretch : Stretch) (part : Part) (done : ℕ) → IsPartBehind stretch done part → HoldsSome stretch.begin (behind stretch) part.page
+holds-part stretch part done is =
     let size = entry_bytes stretch.weighted in
     let entry = entry-within size done stretch.count (omega (arith, is.some, is.within_list)) in
     record {
       byte = stretch.begin + done * size;
       from_begin = omega arith;
       to_end = omega (arith, entry, some_bytes stretch.weighted);
-      at_place = same ∙ ap (page_read layout.drives layout.unit) (page-at part.page part.from (stretch.begin + done * size) is.on_page (from-within stretch part done is));
+      is_page = page-at part.page part.from (stretch.begin + done * size) is.on_page (from-within stretch part done is);
     }
 
 -- one more page of a list was read
-pub OnlyRead-part : {D : Type 0} (T : Telling D) (layout : Layout) (stretch : Stretch) (part : Part) (done : ℕ) (olds betweens news : List D) → IsPartBehind stretch done part →
+pub OnlyRead-part : {D : Type 0} (T : Telling D) (layout : Layout) → 0 < layout.drives → 0 < layout.unit → (stretch : Stretch) (part : Part) (done : ℕ) (olds betweens news : List D) → IsPartBehind stretch done part →
     OnlyRead T (IsPageIn layout stretch) olds betweens → OnlyRead T (λ read. read ≡ page_read layout.drives layout.unit part.page) betweens news → OnlyRead T (IsPageIn layout stretch) olds news
-OnlyRead-part T layout stretch part done olds betweens news is before one =
+OnlyRead-part T layout some_drives some_unit stretch part done olds betweens news is before one =
     OnlyRead-more T (IsPageIn layout stretch) olds betweens news before
-    (OnlyRead-weaker T (λ read. read ≡ page_read layout.drives layout.unit part.page) (IsPageIn layout stretch) (IsPageIn-part layout stretch part done is) betweens news one)
+    (OnlyRead-one 1 T layout (HoldsSome stretch.begin (behind stretch)) part.page betweens news (lit≤ tt) some_drives some_unit (holds-part stretch part done is) one)
 
 -- what the drives told before they were read they still told
 pub HoldWhole-after : {D : Type 0} (T : Telling D) (IsOne : DriveRead → Type 0) (layout : Layout) (olds news : List D) → OnlyRead T IsOne olds news → HoldWhole T.told layout olds → HoldWhole T.told layout news
@@ -71,16 +70,12 @@ HoldWhole-after T IsOne layout olds news reads whole = (
   EachTold-same T.told (λ drive. 1 + length (pages_on drive layout.drives layout.unit layout.pages)) olds news reads.same_told whole.1,
 )
 
--- a page of a vertex's list, as the list lies in the image
-page-of : (opened : Opened) (dir : Dir) (v : ℕ) (read : DriveRead) → IsPageIn opened.layout (stretch_of opened dir v) read → IsPageOf opened.layout opened.index dir v read
-page-of opened dir v read is = record { byte = is.byte; from_begin = is.from_begin; to_end = is.to_end; at_place = is.at_place }
-
 -- a list of a vertex is one of its needed lists
 pub OnlyRead-for : {D : Type 0} (T : Telling D) (opened : Opened) (need : Need) (dir : Dir) (v : ℕ) (olds news : List D) → Contains (dirs_of need) dir →
-    OnlyRead T (IsPageIn opened.layout (stretch_of opened dir v)) olds news → OnlyRead T (IsPageFor opened.layout opened.index need v) olds news
+    OnlyRead T (IsPageIn opened.layout (stretch_of opened dir v)) olds news → OnlyRead T (IsReadFor 1 opened.layout opened.index need v) olds news
 OnlyRead-for T opened need dir v olds news needed reads =
-    OnlyRead-weaker T (IsPageIn opened.layout (stretch_of opened dir v)) (IsPageFor opened.layout opened.index need v)
-    (λ read is. record { dir = dir; is_needed = needed; is_page = page-of opened dir v read is }) olds news reads
+    let stretch = stretch_of opened dir v in
+    OnlyRead-needed 1 T opened.layout opened.index need dir v stretch.begin (behind stretch) olds news needed refl refl reads
 
 pub needs-out : Contains (dirs_of Need.Out) Dir.Out
 needs-out = (0, lit< tt, refl)

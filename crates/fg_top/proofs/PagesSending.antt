@@ -11,9 +11,10 @@ use Rattle.fg_base.specs.declared.plain.VState.{VState}
 use Rattle.fg_image.specs.Lists.{entries_at, entry_at}
 use Rattle.fg_image.proofs.EntryLaws.{entries_on-page, length-entries_at}
 use Rattle.fg_index.specs.ImageIndex.{entry_bytes}
+use Rattle.fg_model.specs.declared.mail.Mail.{Mail}
 use Rattle.fg_model.specs.Iteration.{folded, state_at}
 use Rattle.fg_model.specs.Program.{Rules}
-use Rattle.fg_model.specs.VertexRun.{Message, edges_from, message_along}
+use Rattle.fg_model.specs.VertexRun.{edges_from, message_along}
 use Rattle.fg_stripe.specs.Held.{page_of}
 use Rattle.fg_top.specs.declared.lists.Part.{Part}
 use Rattle.fg_top.specs.declared.lists.Stretch.{Stretch}
@@ -23,20 +24,20 @@ use Rattle.fg_top.proofs.PagesEntries.{edges_from-append, entries_behind, entrie
 use Rattle.fg_top.proofs.PagesFolding.{folded-nil, folded-append, folded-cons}
 
 -- what is still to be sent decides the answer: it holds the first bad edge of all, and its messages lead to the same states
-pub record GoesOn (P : Rules) (n : ℕ) (all_edges : List BadEdge) (all_messages : List Message) (old : List VState) (edges : List BadEdge) (messages : List Message) (now : List VState) : Type 0 where
+pub record GoesOn (P : Rules) (n : ℕ) (all_edges : List BadEdge) (all_messages : List Mail) (old : List VState) (edges : List BadEdge) (messages : List Mail) (now : List VState) : Type 0 where
   pub found : first_bad_of n all_edges ≡ first_bad_of n edges
   pub folds : folded P all_messages old ≡ folded P messages now
 
-pub goes_on-start : (P : Rules) (n : ℕ) (edges : List BadEdge) (messages : List Message) (old : List VState) → GoesOn P n edges messages old edges messages old
+pub goes_on-start : (P : Rules) (n : ℕ) (edges : List BadEdge) (messages : List Mail) (old : List VState) → GoesOn P n edges messages old edges messages old
 goes_on-start P n edges messages old = record { found = refl; folds = refl }
 
-pub goes_on-end : (P : Rules) (n : ℕ) (all_edges : List BadEdge) (all_messages : List Message) (old now : List VState) →
+pub goes_on-end : (P : Rules) (n : ℕ) (all_edges : List BadEdge) (all_messages : List Mail) (old now : List VState) →
     GoesOn P n all_edges all_messages old [] [] now → AreSent P n all_edges all_messages old now
 goes_on-end P n all_edges all_messages old now goes =
     record { no_bad_edge = goes.found; folded_in = sym (folded-nil P now) ∙ sym goes.folds }
 
 -- one part was sent
-pub goes_on-part : (P : Rules) (n : ℕ) (all_edges : List BadEdge) (all_messages : List Message) (old : List VState) (e1 e2 : List BadEdge) (m1 m2 : List Message) (now next : List VState) →
+pub goes_on-part : (P : Rules) (n : ℕ) (all_edges : List BadEdge) (all_messages : List Mail) (old : List VState) (e1 e2 : List BadEdge) (m1 m2 : List Mail) (now next : List VState) →
     GoesOn P n all_edges all_messages old (e1 ++ e2) (m1 ++ m2) now → AreSent P n e1 m1 now next → GoesOn P n all_edges all_messages old e2 m2 next
 goes_on-part P n all_edges all_messages old e1 e2 m1 m2 now next goes are_sent =
     record {
@@ -45,15 +46,15 @@ goes_on-part P n all_edges all_messages old e1 e2 m1 m2 now next goes are_sent =
     }
 
 -- one part has a bad edge
-pub goes_on-bad_part : (P : Rules) (n : ℕ) (all_edges : List BadEdge) (all_messages : List Message) (old : List VState) (e1 e2 : List BadEdge) (m1 m2 : List Message) (now : List VState) (bad : BadEdge) →
+pub goes_on-bad_part : (P : Rules) (n : ℕ) (all_edges : List BadEdge) (all_messages : List Mail) (old : List VState) (e1 e2 : List BadEdge) (m1 m2 : List Mail) (now : List VState) (bad : BadEdge) →
     GoesOn P n all_edges all_messages old (e1 ++ e2) (m1 ++ m2) now → first_bad_of n e1 ≡ Some bad → first_bad_of n all_edges ≡ Some bad
 goes_on-bad_part P n all_edges all_messages old e1 e2 m1 m2 now bad goes first =
     goes.found ∙ find-append (λ (edge : BadEdge). leb n edge.found) e1 e2 ∙ ap (λ o. option_or o (first_bad_of n e2)) first
 
 -- one message was sent
-goes_on-one : (P : Rules) (n : ℕ) (all_edges : List BadEdge) (all_messages : List Message) (old : List VState) (edge : BadEdge) (edges : List BadEdge) (m : Message) (messages : List Message) (now : List VState) →
+goes_on-one : (P : Rules) (n : ℕ) (all_edges : List BadEdge) (all_messages : List Mail) (old : List VState) (edge : BadEdge) (edges : List BadEdge) (m : Mail) (messages : List Mail) (now : List VState) →
     GoesOn P n all_edges all_messages old (edge ∷ edges) (m ∷ messages) now → edge.found < n → m.target < length now →
-    GoesOn P n all_edges all_messages old edges messages (set now m.target (P.receive (state_at now m.target) m.value))
+    GoesOn P n all_edges all_messages old edges messages (set now m.target (P.receive (state_at now m.target) m.message))
 goes_on-one P n all_edges all_messages old edge edges m messages now goes good below =
     let test : leb n edge.found ≡ false = grind (arith, nat_tests) in
     record {
@@ -62,7 +63,7 @@ goes_on-one P n all_edges all_messages old edge edges m messages now goes good b
     }
 
 -- what is still to be sent of one list of v, of which these entries are left, the first of them at this place
-abbrev pub ListGoesOn : Rules → ℕ → ℕ → Dir → ℕ → List BadEdge → List Message → List VState → ℕ → List Entry → List VState → Type 0
+abbrev pub ListGoesOn : Rules → ℕ → ℕ → Dir → ℕ → List BadEdge → List Mail → List VState → ℕ → List Entry → List VState → Type 0
 ListGoesOn P n v dir carry all_edges all_messages old place entries now =
     GoesOn P n all_edges all_messages old (edges_from v dir place entries) (map (message_along P carry dir) entries) now
 
@@ -78,7 +79,7 @@ goes_on-entries P n v dir carry place weighted bytes begin count old =
     (let H : ℕ → Type 0 = λ at. G at all in subst H here (goes_on-start P n (edges_from v dir place all) (map (message_along P carry dir) all) old))
 
 -- behind the last entry
-pub goes_on-no_entries : (P : Rules) (n v : ℕ) (dir : Dir) (carry place : ℕ) (weighted : Bool) (bytes : List ℕ) (begin count done : ℕ) (all_edges : List BadEdge) (all_messages : List Message) (old now : List VState) → count ≤ done →
+pub goes_on-no_entries : (P : Rules) (n v : ℕ) (dir : Dir) (carry place : ℕ) (weighted : Bool) (bytes : List ℕ) (begin count done : ℕ) (all_edges : List BadEdge) (all_messages : List Mail) (old now : List VState) → count ≤ done →
     ListGoesOn P n v dir carry all_edges all_messages old place (entries_behind weighted bytes begin count done) now →
     AreSent P n all_edges all_messages old now
 goes_on-no_entries P n v dir carry place weighted bytes begin count done all_edges all_messages old now end goes =
@@ -86,7 +87,7 @@ goes_on-no_entries P n v dir carry place weighted bytes begin count done all_edg
     goes_on-end P n all_edges all_messages old now (subst G (entries_behind-all weighted bytes begin count done end) goes)
 
 -- the next entry was sent
-pub goes_on-entry : (P : Rules) (n v : ℕ) (dir : Dir) (carry place : ℕ) (weighted : Bool) (bytes : List ℕ) (begin count done : ℕ) (entry : Entry) (all_edges : List BadEdge) (all_messages : List Message) (old now : List VState) →
+pub goes_on-entry : (P : Rules) (n v : ℕ) (dir : Dir) (carry place : ℕ) (weighted : Bool) (bytes : List ℕ) (begin count done : ℕ) (entry : Entry) (all_edges : List BadEdge) (all_messages : List Mail) (old now : List VState) →
     done < count → entry ≡ entry_at weighted bytes (begin + done * entry_bytes weighted) → entry.target < n → entry.target < length now →
     ListGoesOn P n v dir carry all_edges all_messages old (place + done) (entries_behind weighted bytes begin count done) now →
     ListGoesOn P n v dir carry all_edges all_messages old (place + (done + 1)) (entries_behind weighted bytes begin count (done + 1))
@@ -102,7 +103,7 @@ goes_on-entry P n v dir carry place weighted bytes begin count done entry all_ed
     subst H next sent
 
 -- the next entry is a bad edge
-pub goes_on-bad_entry : (P : Rules) (n v : ℕ) (dir : Dir) (carry place : ℕ) (weighted : Bool) (bytes : List ℕ) (begin count done : ℕ) (entry : Entry) (all_edges : List BadEdge) (all_messages : List Message) (old now : List VState) →
+pub goes_on-bad_entry : (P : Rules) (n v : ℕ) (dir : Dir) (carry place : ℕ) (weighted : Bool) (bytes : List ℕ) (begin count done : ℕ) (entry : Entry) (all_edges : List BadEdge) (all_messages : List Mail) (old now : List VState) →
     done < count → entry ≡ entry_at weighted bytes (begin + done * entry_bytes weighted) → n ≤ entry.target →
     ListGoesOn P n v dir carry all_edges all_messages old (place + done) (entries_behind weighted bytes begin count done) now →
     first_bad_of n all_edges ≡ Some (record { v = v; dir = dir; place = place + done; found = entry.target })
@@ -114,7 +115,7 @@ goes_on-bad_entry P n v dir carry place weighted bytes begin count done entry al
     goes.found ∙ ap (λ entries. first_bad_of n (edges_from v dir (place + done) entries)) split ∙ ap (λ b. cond b (Some edge) (first_bad_of n (edges_from v dir (place + done + 1) rest))) test
 
 -- what is left of a list, with the next part of it apart
-goes_on-apart : (P : Rules) (n v : ℕ) (dir : Dir) (carry place : ℕ) (first rest : List Entry) (all_edges : List BadEdge) (all_messages : List Message) (old now : List VState) →
+goes_on-apart : (P : Rules) (n v : ℕ) (dir : Dir) (carry place : ℕ) (first rest : List Entry) (all_edges : List BadEdge) (all_messages : List Mail) (old now : List VState) →
     ListGoesOn P n v dir carry all_edges all_messages old place (first ++ rest) now →
     GoesOn P n all_edges all_messages old (edges_from v dir place first ++ edges_from v dir (place + length first) rest) (map (message_along P carry dir) first ++ map (message_along P carry dir) rest) now
 goes_on-apart P n v dir carry place first rest all_edges all_messages old now goes =
@@ -149,7 +150,7 @@ length-part : (part : Part) (page : List ℕ) → length (entries_of part page) 
 length-part part page = length-entries_at part.weighted page part.from part.count
 
 -- the next part of a list was sent along
-pub goes_on-page : (P : Rules) (n m v : ℕ) (dir : Dir) (carry : ℕ) (image page : List ℕ) (stretch : Stretch) (part : Part) (done : ℕ) (all_edges : List BadEdge) (all_messages : List Message) (old now next : List VState) →
+pub goes_on-page : (P : Rules) (n m v : ℕ) (dir : Dir) (carry : ℕ) (image page : List ℕ) (stretch : Stretch) (part : Part) (done : ℕ) (all_edges : List BadEdge) (all_messages : List Mail) (old now next : List VState) →
     m ≡ n → IsPartBehind stretch done part → page ≡ page_of image part.page →
     ListGoesOn P n v dir carry all_edges all_messages old done (entries_behind stretch.weighted image stretch.begin stretch.count done) now →
     AreSent P m (edges_from v dir part.place (entries_of part page)) (map (message_along P carry dir) (entries_of part page)) now next →
@@ -166,7 +167,7 @@ goes_on-page P n m v dir carry image page stretch part done all_edges all_messag
     (subst (S n) is.place (let T : ℕ → Type 0 = λ k. S k part.place in subst T same are_sent)))
 
 -- the next part of a list has a bad edge
-pub goes_on-bad_page : (P : Rules) (n m v : ℕ) (dir : Dir) (carry : ℕ) (image page : List ℕ) (stretch : Stretch) (part : Part) (done : ℕ) (all_edges : List BadEdge) (all_messages : List Message) (old now : List VState) (bad : BadEdge) →
+pub goes_on-bad_page : (P : Rules) (n m v : ℕ) (dir : Dir) (carry : ℕ) (image page : List ℕ) (stretch : Stretch) (part : Part) (done : ℕ) (all_edges : List BadEdge) (all_messages : List Mail) (old now : List VState) (bad : BadEdge) →
     m ≡ n → IsPartBehind stretch done part → page ≡ page_of image part.page →
     ListGoesOn P n v dir carry all_edges all_messages old done (entries_behind stretch.weighted image stretch.begin stretch.count done) now →
     first_bad_of m (edges_from v dir part.place (entries_of part page)) ≡ Some bad → first_bad_of n all_edges ≡ Some bad
@@ -180,7 +181,7 @@ goes_on-bad_page P n m v dir carry image page stretch part done all_edges all_me
     (subst (F n) is.place (let T : ℕ → Type 0 = λ k. F k part.place in subst T same first_is))
 
 -- two lists were sent along, one after the other
-pub AreSent-append : (P : Rules) (n m : ℕ) (e1 e2 : List BadEdge) (m1 m2 : List Message) (old now next : List VState) → m ≡ n →
+pub AreSent-append : (P : Rules) (n m : ℕ) (e1 e2 : List BadEdge) (m1 m2 : List Mail) (old now next : List VState) → m ≡ n →
     AreSent P n e1 m1 old now → AreSent P m e2 m2 now next → AreSent P n (e1 ++ e2) (m1 ++ m2) old next
 AreSent-append P n m e1 e2 m1 m2 old now next same one two =
     record {

@@ -1,6 +1,6 @@
 -- Sending vertex after vertex.
 use Rattle.std.proofs.Common.{◌≡◌, ℕ, ◌+◌, ◌<◌, ◌≤◌, Some, List, [], ◌∷◌, ◌++◌, length, get_or, drop, map, ap, ◌∙◌, subst, arith}
-use Rattle.std.specs.List.{Contains, flat_map}
+use Rattle.std.specs.List.{Contains}
 use Rattle.std.proofs.lemmas.List.{drop_more, drop_all, get_or-map, length-append, length-map}
 use Rattle.std.proofs.lemmas.List.FromFn.{get_or-map-range_with_len}
 use Rattle.fg_base.specs.declared.plain.BadEdge.{BadEdge}
@@ -8,18 +8,20 @@ use Rattle.fg_base.specs.declared.plain.Dir.{Dir}
 use Rattle.fg_base.specs.declared.plain.Entry.{Entry}
 use Rattle.fg_base.specs.declared.plain.Need.{Need}
 use Rattle.fg_base.specs.declared.plain.VState.{VState}
+use Rattle.fg_model.specs.declared.mail.Mail.{Mail}
 use Rattle.fg_model.specs.Graph.{row}
 use Rattle.fg_model.specs.Iteration.{folded}
 use Rattle.fg_model.specs.Program.{Rules}
-use Rattle.fg_model.specs.VertexRun.{Message, edges_from, edges_of, message_along, sent, over_lists}
+use Rattle.fg_model.specs.VertexRun.{edges_from, edges_of, message_along, sent, over_lists}
 use Rattle.fg_build.specs.declared.opened.Opened.{Opened}
 use Rattle.fg_image.specs.Lists.{graph_by, rows_of}
 use Rattle.fg_top.specs.declared.send.Sender.{Sender}
-use Rattle.fg_top.specs.Asked.{IsPageFor, IsPageForSome}
-use Rattle.fg_top.specs.Lists.{edges_on, entries_on, graph_over, messages_on, over_needed, stretch_of}
-use Rattle.fg_top.specs.OnlyRead.{OnlyRead, Telling}
-use Rattle.fg_top.specs.Sending.{Ascend, AreSent, first_bad_of, vertex_of}
-use Rattle.fg_top.specs.AskedLaws.{OnlyRead-more, OnlyRead-weaker}
+use Rattle.fg_build.specs.Asked.{IsReadFor, IsReadForSome}
+use Rattle.fg_build.specs.ToldImage.{graph_over}
+use Rattle.fg_top.specs.Lists.{edges_on, entries_on, messages_on, over_needed, stretch_of}
+use Rattle.fg_build.specs.OnlyRead.{OnlyRead, Telling}
+use Rattle.fg_top.specs.Sending.{Ascend, AreSent, edges_all, first_bad_of, sent_all, vertex_of}
+use Rattle.fg_build.proofs.AskedLaws.{OnlyRead-for_some, OnlyRead-more, OnlyRead-weaker}
 use Rattle.fg_top.proofs.PagesSending.{GoesOn, goes_on-part, goes_on-bad_part, goes_on-end}
 
 -- the list of a vertex
@@ -42,13 +44,6 @@ edges-on need opened image v within = lists-on need opened image v (λ dir entri
 pub sent-on : (P : Rules) (opened : Opened) (image : List ℕ) (carry v : ℕ) → v < length opened.index.outs → sent P (graph_over opened image) carry v ≡ over_needed P.need (messages_on P opened image v carry)
 sent-on P opened image carry v within = lists-on P.need opened image v (λ dir entries. map (message_along P carry dir) entries) within
 
--- what senders need, and what they send
-abbrev pub edges_all : Rules → Opened → List ℕ → List Sender → List BadEdge
-edges_all P opened image senders = flat_map (λ (sender : Sender). edges_of P.need (graph_over opened image) sender.v) senders
-
-abbrev pub sent_all : Rules → Opened → List ℕ → List Sender → List Message
-sent_all P opened image senders = flat_map (λ (sender : Sender). sent P (graph_over opened image) sender.carry sender.v) senders
-
 edges-rest : (P : Rules) (opened : Opened) (image : List ℕ) (senders : List Sender) (i : ℕ) (sender : Sender) → i < length senders → get_or senders i sender ≡ sender → sender.v < length opened.index.outs →
     edges_all P opened image (drop i senders) ≡ over_needed P.need (edges_on opened image sender.v) ++ edges_all P opened image (drop (i + 1) senders)
 edges-rest P opened image senders i sender below is within =
@@ -61,7 +56,7 @@ sent-rest P opened image senders i sender below is within =
     ap (sent_all P opened image) (drop_more senders i sender below) ∙ ap (λ (s : Sender). sent_all P opened image (s ∷ drop (i + 1) senders)) is
     ∙ ap (λ ms. ms ++ sent_all P opened image (drop (i + 1) senders)) (sent-on P opened image sender.carry sender.v within)
 
-goes_on-apart_vertex : (P : Rules) (n : ℕ) (opened : Opened) (image : List ℕ) (senders : List Sender) (i : ℕ) (sender : Sender) (all_edges : List BadEdge) (all_messages : List Message) (old now : List VState) →
+goes_on-apart_vertex : (P : Rules) (n : ℕ) (opened : Opened) (image : List ℕ) (senders : List Sender) (i : ℕ) (sender : Sender) (all_edges : List BadEdge) (all_messages : List Mail) (old now : List VState) →
     i < length senders → get_or senders i sender ≡ sender → sender.v < length opened.index.outs →
     GoesOn P n all_edges all_messages old (edges_all P opened image (drop i senders)) (sent_all P opened image (drop i senders)) now →
     GoesOn P n all_edges all_messages old
@@ -74,7 +69,7 @@ goes_on-apart_vertex P n opened image senders i sender all_edges all_messages ol
     }
 
 -- a vertex sent
-pub goes_on-vertex : (P : Rules) (n m : ℕ) (need : Need) (opened : Opened) (image : List ℕ) (senders : List Sender) (i : ℕ) (sender : Sender) (all_edges : List BadEdge) (all_messages : List Message) (old now next : List VState) →
+pub goes_on-vertex : (P : Rules) (n m : ℕ) (need : Need) (opened : Opened) (image : List ℕ) (senders : List Sender) (i : ℕ) (sender : Sender) (all_edges : List BadEdge) (all_messages : List Mail) (old now next : List VState) →
     m ≡ n → need ≡ P.need → i < length senders → get_or senders i sender ≡ sender → sender.v < length opened.index.outs →
     GoesOn P n all_edges all_messages old (edges_all P opened image (drop i senders)) (sent_all P opened image (drop i senders)) now →
     AreSent P m (over_needed need (edges_on opened image sender.v)) (over_needed need (messages_on P opened image sender.v sender.carry)) now next →
@@ -88,7 +83,7 @@ goes_on-vertex P n m need opened image senders i sender all_edges all_messages o
     (goes_on-apart_vertex P n opened image senders i sender all_edges all_messages old now below is within goes) two
 
 -- a vertex has a bad edge
-pub goes_on-bad_vertex : (P : Rules) (n m : ℕ) (need : Need) (opened : Opened) (image : List ℕ) (senders : List Sender) (i : ℕ) (sender : Sender) (all_edges : List BadEdge) (all_messages : List Message) (old now : List VState) (bad : BadEdge) →
+pub goes_on-bad_vertex : (P : Rules) (n m : ℕ) (need : Need) (opened : Opened) (image : List ℕ) (senders : List Sender) (i : ℕ) (sender : Sender) (all_edges : List BadEdge) (all_messages : List Mail) (old now : List VState) (bad : BadEdge) →
     m ≡ n → need ≡ P.need → i < length senders → get_or senders i sender ≡ sender → sender.v < length opened.index.outs →
     GoesOn P n all_edges all_messages old (edges_all P opened image (drop i senders)) (sent_all P opened image (drop i senders)) now →
     first_bad_of m (over_needed need (edges_on opened image sender.v)) ≡ Some bad → first_bad_of n all_edges ≡ Some bad
@@ -101,7 +96,7 @@ goes_on-bad_vertex P n m need opened image senders i sender all_edges all_messag
     (goes_on-apart_vertex P n opened image senders i sender all_edges all_messages old now below is within goes) two
 
 -- behind the last vertex
-pub goes_on-no_vertices : (P : Rules) (n : ℕ) (opened : Opened) (image : List ℕ) (senders : List Sender) (i : ℕ) (all_edges : List BadEdge) (all_messages : List Message) (old now : List VState) → length senders ≤ i →
+pub goes_on-no_vertices : (P : Rules) (n : ℕ) (opened : Opened) (image : List ℕ) (senders : List Sender) (i : ℕ) (all_edges : List BadEdge) (all_messages : List Mail) (old now : List VState) → length senders ≤ i →
     GoesOn P n all_edges all_messages old (edges_all P opened image (drop i senders)) (sent_all P opened image (drop i senders)) now → AreSent P n all_edges all_messages old now
 goes_on-no_vertices P n opened image senders i all_edges all_messages old now end goes =
     let G : List Sender → Type 0 = λ rest. GoesOn P n all_edges all_messages old (edges_all P opened image rest) (sent_all P opened image rest) now in
@@ -124,16 +119,16 @@ count-no_vertices P opened image senders i messages all end before =
 -- what a vertex asks for, one of the vertices does
 pub OnlyRead-vertex : {D : Type 0} (T : Telling D) (opened : Opened) (P : Rules) (need : Need) (senders : List Sender) (i : ℕ) (sender : Sender) (olds betweens news : List D) →
     need ≡ P.need → i < length senders → get_or senders i sender ≡ sender →
-    OnlyRead T (IsPageForSome opened.layout opened.index P.need (map vertex_of senders)) olds betweens → OnlyRead T (IsPageFor opened.layout opened.index need sender.v) betweens news →
-    OnlyRead T (IsPageForSome opened.layout opened.index P.need (map vertex_of senders)) olds news
+    OnlyRead T (IsReadForSome 1 opened.layout opened.index P.need (map vertex_of senders)) olds betweens → OnlyRead T (IsReadFor 1 opened.layout opened.index need sender.v) betweens news →
+    OnlyRead T (IsReadForSome 1 opened.layout opened.index P.need (map vertex_of senders)) olds news
 OnlyRead-vertex T opened P need senders i sender olds betweens news needs below is before one =
     let has : Contains (map vertex_of senders) sender.v =
     (i, omega (arith, length-map senders vertex_of), get_or-map vertex_of senders i sender sender.v below ∙ ap vertex_of is) in
-    let One = λ (need : Need). IsPageFor opened.layout opened.index need sender.v in
-    let Some_ = IsPageForSome opened.layout opened.index P.need (map vertex_of senders) in
+    let One = λ (need : Need). IsReadFor 1 opened.layout opened.index need sender.v in
+    let Some_ = IsReadForSome 1 opened.layout opened.index P.need (map vertex_of senders) in
     let R : Need → Type 0 = λ d. OnlyRead T (One d) betweens news in
     OnlyRead-more T Some_ olds betweens news before
-    (OnlyRead-weaker T (One P.need) Some_ (λ read page. record { vertex = sender.v; is_one = has; is_for = page }) betweens news (subst R needs one))
+    (OnlyRead-for_some 1 T opened.layout opened.index P.need (map vertex_of senders) sender.v betweens news has (subst R needs one))
 
 -- the next of ascending vertices
 pub Ascend-next : (low n : ℕ) (senders : List Sender) (i : ℕ) (d : Sender) → i < length senders → Ascend low n (map vertex_of (drop i senders)) →

@@ -1,5 +1,5 @@
 -- How a run ends behind its head, by what it answered and what was shown of it.
-use Rattle.std.proofs.Common.{◌≡◌, ◌∙◌, ℕ, ◌+◌, ◌≤◌, ◌^◌, arith, Bool, Option, None, Some, IfSome, Result, Ok, Err, IfOk, IfErr, OnOk, List, [], ◌∷◌, ◌++◌, length, map, take, drop, refl, sym, ap, subst}
+use Rattle.std.proofs.Common.{◌≡◌, ◌≢◌, ◌∙◌, ℕ, ◌+◌, ◌≤◌, ◌^◌, arith, Bool, ⊎_elim, Option, None, Some, IfSome, Result, Ok, Err, IfOk, OnOk, List, [], ◌∷◌, ◌++◌, length, map, take, drop, refl, sym, ap, subst}
 use Rattle.std.proofs.lemmas.Grind.{flat_map-append}
 use Rattle.std.proofs.lemmas.List.{append-nil, take-map}
 use Rattle.std.proofs.lemmas.Option.{IfSome_then}
@@ -16,7 +16,7 @@ use Rattle.fg_base.proofs.ToldLemmas.{grown-grown}
 use Rattle.fg_model.specs.declared.graph.Graph.{Graph}
 use Rattle.fg_model.specs.declared.run.End.{End}
 use Rattle.fg_model.specs.declared.run.RunFault.{RunFault}
-use Rattle.fg_model.specs.Engine.{MatchRunFault}
+use Rattle.fg_model.specs.Engine.{IsWhole, ShownAs, TellsEnd, TellsFaults}
 use Rattle.fg_model.specs.Iteration.{AreStates}
 use Rattle.fg_model.specs.Program.{Rules}
 use Rattle.fg_model.specs.Run.{Ending, Finished, Refused, Run, Settled, Stopped, answer_at, answer_of}
@@ -28,7 +28,9 @@ use Rattle.fg_top.specs.declared.jobs.Wish.{Wish}
 use Rattle.fg_top.specs.Ends.{Ends, output_between}
 use Rattle.fg_top.specs.Outcome.{Close, Done, Outcome, Refuses, run_close, text_of}
 use Rattle.fg_top.specs.Running.{IsClosed, MayClose, RunComesTo, behind_head, last_text}
-use Rattle.fg_top.proofs.EndLemmas.{ends_given_up, refused_status, written_behind}
+use Rattle.fg_top.specs.Tallies.{CameToEnd}
+use Rattle.fg_top.proofs.BuildDrives.{held_status}
+use Rattle.fg_top.proofs.EndLemmas.{ends_given_up, not_come, refused_status, written_behind}
 
 -- what is written of all these iterations is what a watch that reports tells of them
 concat_told : (each : Bool) (show : VState → Value) (finished : List Finished) →
@@ -159,64 +161,39 @@ broken_run rules wish (Some one) run_of t0 t1 grew (k, part, within, shown) = re
   wrote = broken_text wish.each rules.show (run_of one).finished t0 t1 k part shown;
 }
 
--- why the run answered so, by its fault
-abbrev pub RunCause : {D : Type 0} → (D → ℕ) → List D → List D → ℕ → ℕ → RunFault → Type 0
-RunCause faults olds news f0 f1 fault = MatchRunFault fault
-    (f1 ≡ f0)
-    (λ drive. RoseFirst faults drive olds news × (f1 ≡ f0))
-    (λ bad. NoneRose faults olds news × (f1 ≡ f0))
-    (NoneRose faults olds news × Rose f0 f1)
-
--- whether the run ends so
-abbrev pub RunBad : RunFault → Run → Type 0
-RunBad fault run = MatchRunFault fault (Unit {0}) (λ drive. Unit {0}) (λ bad. answer_of run ≡ Err (RunFault.BadEdge bad)) (Unit {0})
-
--- what was shown of it
-abbrev pub RunShown : Rules → Wish → RunFault → Option (List ℕ) → Option (List ℕ) → Run → Type 0
-RunShown rules wish fault t0 t1 run =
-    let told = iteration_text wish.each rules.show in
-    MatchRunFault fault
-    (ShownSome told run.finished t0 t1)
-    (λ drive. ShownSome told run.finished t0 t1)
-    (λ bad. ShownAll told run.finished t0 t1)
-    (ShownPart told run.finished t0 t1)
-
+-- the end of a run, by what it answered, whose count rose and what was shown
 pub ends_of_run : {D A : Type 0} (faults : D → ℕ) (olds news : List D) (rules : Rules) (wish : Wish) (told : Option A) (run_of : A → Run)
     (leaves : Option Refusal → Type 0) (answer : Result End RunFault) (f0 f1 f2 : ℕ) (t0 t1 t2 : Option (List ℕ)) (back : Bool) (status : ℕ) →
     ((end : Option Refusal) → leaves end) →
     Grew t0 t1 →
-    IfOk answer (λ end. IfSome told (λ one. answer_of (run_of one) ≡ Ok end)) →
-    OnOk answer (NoneRose faults olds news) →
-    OnOk answer (f1 ≡ f0) →
-    OnOk answer (IfSome told (λ one. ShownAll (iteration_text wish.each rules.show) (run_of one).finished t0 t1)) →
-    IfErr answer (λ fault. RunCause faults olds news f0 f1 fault) →
-    IfErr answer (λ fault. IfSome told (λ one. RunBad fault (run_of one))) →
-    IfErr answer (λ fault. IfSome told (λ one. RunShown rules wish fault t0 t1 (run_of one))) →
+    IfSome told (λ one. TellsEnd answer (run_of one)) →
+    TellsFaults answer (NoneRose faults olds news) (λ drive. RoseFirst faults drive olds news) f0 f1 →
+    IfSome told (λ one. ShownAs answer (iteration_text wish.each rules.show) (run_of one).finished t0 t1) →
     IsClosed wish.quiet rules.show (output_between f1 f2 t1 t2 back) answer status →
     Ends faults olds news (RunComesTo rules wish told run_of) leaves (output_between f0 f2 t0 t2 back) status
-ends_of_run faults olds news rules wish told run_of leaves (Ok end) f0 f1 f2 t0 t1 t2 back status left grew ok kept same shown counts bad some closed =
+ends_of_run faults olds news rules wish told run_of leaves (Ok end) f0 f1 f2 t0 t1 t2 back status left grew ends counts shown closed =
     let last = last_text wish.quiet rules.show end in
-    let whole = whole_run rules wish told run_of (Done last) t0 t1 grew tt (IfSome_then told ok (λ one answer. done_of rules wish (run_of one) end answer)) shown in
+    let whole = whole_run rules wish told run_of (Done last) t0 t1 grew tt (IfSome_then told ends (λ one answer. done_of rules wish (run_of one) end answer)) shown in
     record {
       end = None;
       text = concat whole.outcome.lines ++ last;
-      cause = (kept, record { last = last; is_outcome = record { outcome = whole.outcome; is_one = whole.is_one; closes = whole.closes; text_is = refl } });
+      cause = (counts.0, record { last = last; is_outcome = record { outcome = whole.outcome; is_one = whole.is_one; closes = whole.closes; text_is = refl } });
       left = left None;
-      written = written_behind f0 f1 f2 t0 t1 t2 back None (concat whole.outcome.lines) last status same whole.wrote closed;
+      written = written_behind f0 f1 f2 t0 t1 t2 back None (concat whole.outcome.lines) last status counts.1 whole.wrote closed;
     }
-ends_of_run faults olds news rules wish told run_of leaves (Err RunFault.Memory) f0 f1 f2 t0 t1 t2 back status left grew ok kept same shown counts bad some closed =
-    let cut = cut_run rules wish told run_of t0 t1 grew some in
+ends_of_run faults olds news rules wish told run_of leaves (Err RunFault.Memory) f0 f1 f2 t0 t1 t2 back status left grew ends counts shown closed =
+    let cut = cut_run rules wish told run_of t0 t1 grew shown in
     let lines = concat (take cut.count cut.outcome.lines) in
     let line = refusal_line Refusal.Memory in
     record {
       end = Some Refusal.Memory;
       text = lines ++ line;
-      cause = record { outcome = cut.outcome; is_one = cut.is_one; count = cut.count; text_is = refl };
+      cause = (counts.0, record { outcome = cut.outcome; is_one = cut.is_one; count = cut.count; text_is = refl });
       left = left (Some Refusal.Memory);
-      written = written_behind f0 f1 f2 t0 t1 t2 back (Some Refusal.Memory) lines line status counts cut.wrote closed;
+      written = written_behind f0 f1 f2 t0 t1 t2 back (Some Refusal.Memory) lines line status counts.1 cut.wrote closed;
     }
-ends_of_run faults olds news rules wish told run_of leaves (Err (RunFault.Drive drive)) f0 f1 f2 t0 t1 t2 back status left grew ok kept same shown counts bad some closed =
-    let cut = cut_run rules wish told run_of t0 t1 grew some in
+ends_of_run faults olds news rules wish told run_of leaves (Err (RunFault.Drive drive)) f0 f1 f2 t0 t1 t2 back status left grew ends counts shown closed =
+    let cut = cut_run rules wish told run_of t0 t1 grew shown in
     let lines = concat (take cut.count cut.outcome.lines) in
     let line = refusal_line (Refusal.DriveFault drive) in
     record {
@@ -226,8 +203,8 @@ ends_of_run faults olds news rules wish told run_of leaves (Err (RunFault.Drive 
       left = left (Some (Refusal.DriveFault drive));
       written = written_behind f0 f1 f2 t0 t1 t2 back (Some (Refusal.DriveFault drive)) lines line status counts.1 cut.wrote closed;
     }
-ends_of_run faults olds news rules wish told run_of leaves (Err (RunFault.BadEdge edge)) f0 f1 f2 t0 t1 t2 back status left grew ok kept same shown counts bad some closed =
-    let whole = whole_run rules wish told run_of (Refuses (Refusal.BadEdge edge)) t0 t1 grew tt (IfSome_then told bad (λ one answer. bad_of rules wish (run_of one) edge answer)) some in
+ends_of_run faults olds news rules wish told run_of leaves (Err (RunFault.BadEdge edge)) f0 f1 f2 t0 t1 t2 back status left grew ends counts shown closed =
+    let whole = whole_run rules wish told run_of (Refuses (Refusal.BadEdge edge)) t0 t1 grew tt (IfSome_then told ends (λ one answer. bad_of rules wish (run_of one) edge answer)) shown in
     let line = refusal_line (Refusal.BadEdge edge) in
     record {
       end = Some (Refusal.BadEdge edge);
@@ -236,11 +213,11 @@ ends_of_run faults olds news rules wish told run_of leaves (Err (RunFault.BadEdg
       left = left (Some (Refusal.BadEdge edge));
       written = written_behind f0 f1 f2 t0 t1 t2 back (Some (Refusal.BadEdge edge)) (concat whole.outcome.lines) line status counts.1 whole.wrote closed;
     }
-ends_of_run faults olds news rules wish told run_of leaves (Err RunFault.Watch) f0 f1 f2 t0 t1 t2 back status left grew ok kept same shown counts bad some closed =
-    let broken = broken_run rules wish told run_of t0 t1 grew some in
+ends_of_run faults olds news rules wish told run_of leaves (Err RunFault.Watch) f0 f1 f2 t0 t1 t2 back status left grew ends counts shown closed =
+    let broken = broken_run rules wish told run_of t0 t1 grew shown in
     let From : ℕ → Type 0 = λ count. Rose f0 count in
     let To : Option (List ℕ) → Type 0 = λ text. GrewByFirst (concat (take broken.count broken.outcome.lines)) t0 text in
-    ends_given_up faults olds news (RunComesTo rules wish told run_of) leaves broken.outcome broken.count f0 f2 t0 t2 back status broken.is_one (left (Some Refusal.Memory))
+    ends_given_up faults olds news (RunComesTo rules wish told run_of) leaves broken.outcome broken.count f0 f2 t0 t2 back status broken.is_one counts.0 (left (Some Refusal.Memory))
     (subst From (sym closed.faults) counts.1) (subst To (sym closed.text) broken.wrote) closed.failed
 
 -- where the status is 0 the run has an end
@@ -256,34 +233,52 @@ run_is_ok quiet show f1 f2 t1 t2 back (Err (RunFault.BadEdge bad)) status P clos
 run_is_ok quiet show f1 f2 t1 t2 back (Err RunFault.Watch) status P closed zero known =
     let four : ◌≡◌ {A = ℕ} 4 0 = sym closed.failed ∙ zero in cc
 
--- how a run in memory answers, as a run that has no drives
-pub plain_cause : {A : Type 0} (answer : Result A RunFault) (f0 f1 : ℕ) →
-    IfErr answer (λ fault. MatchRunFault fault (f1 ≡ f0) (λ drive. ⊥) (λ bad. f1 ≡ f0) (Rose f0 f1)) →
-    IfErr answer (λ fault. RunCause {D = ℕ} (λ drive. drive) [] [] f0 f1 fault)
-plain_cause (Ok end) f0 f1 counts = tt
-plain_cause (Err RunFault.Memory) f0 f1 counts = counts
-plain_cause (Err (RunFault.Drive drive)) f0 f1 counts = absurd counts
-plain_cause (Err (RunFault.BadEdge bad)) f0 f1 counts = (tt, counts)
-plain_cause (Err RunFault.Watch) f0 f1 counts = (tt, counts)
+one_not_zero : ◌≡◌ {A = ℕ} 1 0 → ⊥
+one_not_zero is = cc
 
-pub plain_bad : {A : Type 0} (answer : Result A RunFault) (run : Run) →
-    IfErr answer (λ fault. MatchRunFault fault (Unit {0}) (λ drive. ⊥) (λ bad. answer_of run ≡ Err (RunFault.BadEdge bad)) (Unit {0})) →
-    IfErr answer (λ fault. RunBad fault run)
-plain_bad (Ok end) run bad = tt
-plain_bad (Err RunFault.Memory) run bad = tt
-plain_bad (Err (RunFault.Drive drive)) run bad = tt
-plain_bad (Err (RunFault.BadEdge edge)) run bad = bad
-plain_bad (Err RunFault.Watch) run bad = tt
+one_not_eight : ◌≡◌ {A = ℕ} 1 8 → ⊥
+one_not_eight is = cc
 
-pub plain_shown : {A : Type 0} (answer : Result A RunFault) (rules : Rules) (wish : Wish) (t0 t1 : Option (List ℕ)) (run : Run) →
-    IfErr answer (λ fault. let told = iteration_text wish.each rules.show in
-    MatchRunFault fault (ShownSome told run.finished t0 t1) (λ drive. ⊥) (λ bad. ShownAll told run.finished t0 t1) (ShownPart told run.finished t0 t1)) →
-    IfErr answer (λ fault. RunShown rules wish fault t0 t1 run)
-plain_shown (Ok end) rules wish t0 t1 run shown = tt
-plain_shown (Err RunFault.Memory) rules wish t0 t1 run shown = shown
-plain_shown (Err (RunFault.Drive drive)) rules wish t0 t1 run shown = absurd shown
-plain_shown (Err (RunFault.BadEdge bad)) rules wish t0 t1 run shown = shown
-plain_shown (Err RunFault.Watch) rules wish t0 t1 run shown = shown
+five_not_zero : ◌≡◌ {A = ℕ} 5 0 → ⊥
+five_not_zero is = cc
+
+five_not_eight : ◌≡◌ {A = ℕ} 5 8 → ⊥
+five_not_eight is = cc
+
+-- where the status is that of a work that came to its end, the run did
+pub closed_whole : (quiet : Bool) (show : VState → Value) (f1 f2 : ℕ) (t1 t2 : Option (List ℕ)) (back : Bool) (answer : Result End RunFault) (status : ℕ) →
+    IsClosed quiet show (output_between f1 f2 t1 t2 back) answer status → CameToEnd status → IsWhole answer
+closed_whole quiet show f1 f2 t1 t2 back (Ok end) status closed came = tt
+closed_whole quiet show f1 f2 t1 t2 back (Err RunFault.Memory) status closed came =
+    absurd (not_come (output_between f1 f2 t1 t2 back) Refusal.Memory _ status (λ is. one_not_zero is) (λ is. one_not_eight is) closed came)
+closed_whole quiet show f1 f2 t1 t2 back (Err (RunFault.Drive drive)) status closed came =
+    absurd (not_come (output_between f1 f2 t1 t2 back) (Refusal.DriveFault drive) _ status (λ is. five_not_zero is) (λ is. five_not_eight is) closed came)
+closed_whole quiet show f1 f2 t1 t2 back (Err (RunFault.BadEdge bad)) status closed came = tt
+closed_whole quiet show f1 f2 t1 t2 back (Err RunFault.Watch) status closed came =
+    ⊎_elim (λ zero. let four : ◌≡◌ {A = ℕ} 4 0 = sym closed.failed ∙ zero in cc) (λ eight. let four : ◌≡◌ {A = ℕ} 4 8 = sym closed.failed ∙ eight in cc) came
+
+-- no run behind its head closes with the status of what drives hold
+pub closed_not_held : (quiet : Bool) (show : VState → Value) (f1 f2 : ℕ) (t1 t2 : Option (List ℕ)) (back : Bool) (answer : Result End RunFault) (status : ℕ) →
+    IsClosed quiet show (output_between f1 f2 t1 t2 back) answer status → status ≢ 7
+closed_not_held quiet show f1 f2 t1 t2 back (Ok end) status closed is =
+    ⊎_elim (λ whole. let zero : ◌≡◌ {A = ℕ} 0 7 = sym whole.3 ∙ is in cc) (λ failed. let four : ◌≡◌ {A = ℕ} 4 7 = sym failed.2 ∙ is in cc) closed
+closed_not_held quiet show f1 f2 t1 t2 back (Err RunFault.Memory) status closed is =
+    let own : ◌≡◌ {A = ℕ} 1 7 = held_status (output_between f1 f2 t1 t2 back) Refusal.Memory _ status closed is in cc
+closed_not_held quiet show f1 f2 t1 t2 back (Err (RunFault.Drive drive)) status closed is =
+    let own : ◌≡◌ {A = ℕ} 5 7 = held_status (output_between f1 f2 t1 t2 back) (Refusal.DriveFault drive) _ status closed is in cc
+closed_not_held quiet show f1 f2 t1 t2 back (Err (RunFault.BadEdge bad)) status closed is =
+    let own : ◌≡◌ {A = ℕ} 8 7 = held_status (output_between f1 f2 t1 t2 back) (Refusal.BadEdge bad) _ status closed is in cc
+closed_not_held quiet show f1 f2 t1 t2 back (Err RunFault.Watch) status closed is =
+    let four : ◌≡◌ {A = ℕ} 4 7 = sym closed.failed ∙ is in cc
+
+-- whose count rose in a run in memory, as in a run that has no drives
+pub plain_counts : (answer : Result End RunFault) (f0 f1 : ℕ) → TellsFaults answer (Unit {0}) (λ drive. ⊥) f0 f1 →
+    TellsFaults answer (NoneRose {D = ℕ} (λ drive. drive) [] []) (λ number. RoseFirst {D = ℕ} (λ drive. drive) number [] []) f0 f1
+plain_counts (Ok end) f0 f1 counts = counts
+plain_counts (Err RunFault.Memory) f0 f1 counts = counts
+plain_counts (Err (RunFault.Drive drive)) f0 f1 counts = absurd counts.0
+plain_counts (Err (RunFault.BadEdge bad)) f0 f1 counts = counts
+plain_counts (Err RunFault.Watch) f0 f1 counts = counts
 
 -- there are few states
 pub few_states : (graph : Graph) (answer : Result End RunFault) → graph.n ≤ 2 ^ 24 →

@@ -3,7 +3,7 @@ use Rattle.std.proofs.Common.{◌≡◌, ℕ, Bool, true, false, ◌&&◌, not, 
 use Rattle.std.specs.List.{list_all, flat_map, starts_with}
 use Rattle.fg_base.specs.declared.refusal.Opt.{Opt}
 use Rattle.fg_base.specs.declared.refusal.Opt.TheVariants.{Program, Source, Max, Cut, Each, Quiet, Unit as UnitPages, Number, Undirected, Input, Start, Nodes, Edges, Drives, Drive}
-use Rattle.fg_report.specs.Refusals.{option_name}
+use Rattle.fg_base.specs.Options.{option_name}
 use Rattle.fg_top.specs.CommandLine.{Given, is_word, is_flag, options, option_of}
 use Rattle.fg_top.specs.Words.{Parts, parts_from, parts_of, proper, led_by, behind_option, is_option_first, is_each_once, is_drive}
 use Rattle.fg_top.proofs.WordReading.{same_text, is_built, left, right, opening, by_flag, by_value}

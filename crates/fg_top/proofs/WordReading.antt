@@ -6,7 +6,7 @@ use Rattle.std.specs.List.{list_all, list_any}
 use Rattle.std.proofs.lemmas.Bool.{eqb-true}
 use Rattle.fg_base.specs.declared.refusal.Opt.{Opt}
 use Rattle.fg_base.specs.declared.refusal.Opt.TheVariants.{Program, Source, Max, Cut, Each, Quiet, Unit as UnitPages, Number, Undirected, Input, Start, Nodes, Edges, Drives, Drive}
-use Rattle.fg_report.specs.Refusals.{option_name}
+use Rattle.fg_base.specs.Options.{option_name}
 use Rattle.fg_top.specs.declared.words.command_line.CommandLine.{CommandLine}
 use Rattle.fg_top.specs.CommandLine.{Given, is_given, is_same, is_word, is_there, said, found, value_of, line_of, with_option, options, option_of, is_flag, program_of, number_within}
 use Rattle.fg_top.specs.Words.{Parts, parts_from, led_by, behind_option, is_option_first, is_each_once, is_drive, proper, line_read, with_drives}

@@ -10,7 +10,7 @@ use Rattle.fg_base.specs.declared.refusal.Opt.{Opt}
 use Rattle.fg_base.specs.declared.refusal.Opt.TheVariants.{Program, Source, Max, Cut, Each, Quiet, Unit as UnitPages, Number, Undirected, Input, Start, Nodes, Edges, Drives, Drive}
 use Rattle.fg_base.specs.declared.refusal.WordFault.{WordFault}
 use Rattle.fg_base.specs.declared.refusal.WordFault.TheVariants.{Extra, Missing, Range}
-use Rattle.fg_report.specs.Refusals.{option_name}
+use Rattle.fg_base.specs.Options.{option_name}
 use Rattle.fg_top.specs.declared.words.command.Command.{Command}
 use Rattle.fg_top.specs.declared.words.command.Command.TheVariants.{Build, Run, Ref, Gen, Large}
 use Rattle.fg_top.specs.declared.words.command.ProgramName.{ProgramName}

@@ -35,12 +35,13 @@ pub record IsDone (comes : Outcome → Type 0) (text : List ℕ) : Type 0 where
   pub last : List ℕ
   pub is_outcome : IsOutcome comes (Done last) last text
 
--- why nothing or this refusal ended the work before the last text was written, and the text of that end. Want of memory
--- is free. A drive's fault is that of the first drive whose count rose. Every other end comes where no drive's count
--- rose, and is an outcome that the job comes to. The output's fault ends no work: it shows when the text is written.
+-- why nothing or this refusal ended the work before the last text was written, and the text of that end. A drive's fault
+-- is that of the first drive whose count rose. Every other end comes where no drive's count rose: want of memory at any
+-- place of an outcome that the job comes to, and each further one as that outcome's close. The output's fault ends no
+-- work: it shows when the text is written.
 abbrev pub IsCause : {D : Type 0} → (D → ℕ) → List D → List D → (Outcome → Type 0) → Option Refusal → List ℕ → Type 0
 IsCause faults olds news comes None text = NoneRose faults olds news × IsDone comes text
-IsCause faults olds news comes (Some Memory) text = IsCutShort comes (refusal_line Memory) text
+IsCause faults olds news comes (Some Memory) text = NoneRose faults olds news × IsCutShort comes (refusal_line Memory) text
 IsCause faults olds news comes (Some OutputFault) text = ⊥
 IsCause faults olds news comes (Some (DriveFault drive)) text =
     RoseFirst faults drive olds news × IsCutShort comes (refusal_line (DriveFault drive)) text

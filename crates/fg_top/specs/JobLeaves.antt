@@ -1,11 +1,14 @@
 -- What each job leaves of its drives and of its input.
-use Rattle.std.specs.Prelude.{◌≡◌, ℕ, Option, Result, Ok, Err, List, ◌⊎◌, length}
+use Rattle.std.specs.Prelude.{◌≡◌, ℕ, Bool, Option, Result, Ok, Err, List, ◌⊎◌, length}
 use Rattle.fg_base.specs.Faults.{Rose}
+use Rattle.fg_base.specs.Refusal.{status_of}
 use Rattle.fg_base.specs.declared.refusal.Refusal.{Refusal}
 use Rattle.fg_base.specs.declared.refusal.WordFault.{WordFault}
 use Rattle.fg_build.specs.Layouts.{plan_of}
+use Rattle.fg_build.specs.PagesTold.{EmptyTold, RefusedTold}
 use Rattle.fg_outside.specs.Drives.{EachSame, RoomyKept}
 use Rattle.fg_text.specs.Pieces.{IsAtEnd, TookFront}
+use Rattle.fg_text.specs.Read.{ReadRefused}
 use Rattle.fg_top.specs.declared.jobs.Job.{Job}
 use Rattle.fg_top.specs.declared.jobs.Job.TheVariants.{Build, Run, Ref, Gen, Large}
 use Rattle.fg_top.specs.BuildOutcome.{Input}
@@ -52,6 +55,25 @@ KeepsBy room faults (Ok (Ref pick max each quiet)) left olds news = RoomyKept ro
 KeepsBy room faults (Ok (Gen start nodes edges)) left olds news = RoomyKept room faults olds news
 KeepsBy room faults (Ok (Large pick max unit undirected start nodes edges drives)) left olds news = RoomyKept room faults olds news
 
+-- drives that a run or a build refuses for what they hold, by the numbers of pages that they told: whether or not they tell
+-- their bytes
+pub record OpeningRefused {D : Type 0} (told : D → ℕ) (olds news : List D) : Type 0 where
+  pub refusal : Refusal
+  pub of_drives : status_of refusal ≡ 7
+  pub by_told : RefusedTold told olds news refusal
+
+pub record BuildingRefused {D : Type 0} (told : D → ℕ) (olds news : List D) : Type 0 where
+  pub refusal : Refusal
+  pub of_drives : status_of refusal ≡ 7
+  pub by_told : EmptyTold told olds news (Err refusal)
+
+-- the same by the job; one that works on no drives of its caller refuses none
+abbrev pub RefusesAsTold : {D : Type 0} → (D → ℕ) → Result Job WordFault → List D → List D → Type 0
+RefusesAsTold told (Ok (Build unit number undirected)) olds news = BuildingRefused told olds news
+RefusesAsTold told (Ok (Run pick max each quiet)) olds news = OpeningRefused told olds news
+RefusesAsTold told (Ok (Ref pick max each quiet)) olds news = OpeningRefused told olds news
+RefusesAsTold told given olds news = Unit {0}
+
 -- what is left of the input by any end: a build took a first part of it, no other job took any
 abbrev pub TakesBy : Result Job WordFault → Option (List ℕ) → Option (List ℕ) → Type 0
 TakesBy (Err fault) old new = new ≡ old
@@ -60,6 +82,18 @@ TakesBy (Ok (Run pick max each quiet)) old new = new ≡ old
 TakesBy (Ok (Ref pick max each quiet)) old new = new ≡ old
 TakesBy (Ok (Gen start nodes edges)) old new = new ≡ old
 TakesBy (Ok (Large pick max unit undirected start nodes edges drives)) old new = new ≡ old
+
+-- where a text is refused for what it says, reading stopped: with the piece in which the refused line ends, or soon behind the
+-- longest text
+pub record StoppedReading (undirected : Bool) (old new : Option (List ℕ)) (before after : ℕ) : Type 0 where
+  pub refusal : Refusal
+  pub of_text : status_of refusal ≡ 6
+  pub stopped : ReadRefused undirected old new before after refusal
+
+-- a build stopped reading so; no other job reads a text of the input
+abbrev pub StopsBy : Result Job WordFault → Option (List ℕ) → Option (List ℕ) → ℕ → ℕ → Type 0
+StopsBy (Ok (Build unit number undirected)) old new before after = StoppedReading undirected old new before after
+StopsBy given old new before after = Unit {0}
 
 -- where the job is done, a build took all of it
 abbrev pub EndsInput : Result Job WordFault → Option (List ℕ) → Type 0

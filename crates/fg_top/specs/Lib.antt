@@ -1,5 +1,3 @@
-pub mod Asked
-pub mod AskedLaws
 pub mod BuildOutcome
 pub mod Built
 pub mod CommandLine
@@ -12,7 +10,6 @@ pub mod LargeOutcome
 pub mod Lists
 pub mod MadeDrives
 pub mod Meaning
-pub mod OnlyRead
 pub mod Outcome
 pub mod Reads
 pub mod Ready

@@ -1,33 +1,20 @@
--- The lists of a graph as they lie in an image, and the image that drives tell.
+-- The lists of a graph as they lie in an image.
 use Rattle.std.specs.Prelude.{◌≡◌, ◌≤◌, ℕ, ◌+◌, ◌*◌, Bool, true, false, Option, None, Some, List, [], ◌++◌, map, slice_index}
 use Rattle.fg_base.specs.declared.plain.BadEdge.{BadEdge}
 use Rattle.fg_base.specs.declared.plain.Dir.{Dir}
 use Rattle.fg_base.specs.declared.plain.Entry.{Entry}
 use Rattle.fg_base.specs.declared.plain.Need.{Need}
 use Rattle.fg_build.specs.declared.opened.Opened.{Opened}
-use Rattle.fg_image.specs.Lists.{begin_of, entries_at, graph_by}
+use Rattle.fg_build.specs.Asked.{IsReadIn}
+use Rattle.fg_image.specs.Lists.{begin_of, entries_at}
 use Rattle.fg_index.specs.ImageIndex.{degrees_in, entry_bytes}
-use Rattle.fg_model.specs.declared.graph.Graph.{Graph}
+use Rattle.fg_model.specs.declared.mail.Mail.{Mail}
 use Rattle.fg_model.specs.Program.{Rules}
-use Rattle.fg_model.specs.VertexRun.{Message, edges_from, message_along}
+use Rattle.fg_model.specs.VertexRun.{edges_from, message_along}
+use Rattle.fg_outside.specs.Drives.{DriveRead}
 use Rattle.fg_stripe.specs.declared.layout.Layout.{Layout}
-use Rattle.fg_stripe.specs.Held.{image_on}
 use Rattle.fg_top.specs.declared.lists.Part.{Part}
 use Rattle.fg_top.specs.declared.lists.Stretch.{Stretch}
-
--- whether all drives tell their bytes
-abbrev pub is_told : Option (List (List ℕ)) → Bool
-is_told None = false
-is_told (Some helds) = true
-
--- the image in this layout that drives tell; no bytes where one of them doesn't tell
-abbrev pub image_told : Layout → Option (List (List ℕ)) → List ℕ
-image_told layout None = []
-image_told layout (Some helds) = image_on layout.unit layout.pages helds
-
--- the graph of what was opened, over these bytes of its image
-abbrev pub graph_over : Opened → List ℕ → Graph
-graph_over opened image = graph_by opened.layout opened.index image
 
 -- where the list of v lies: behind the lists of the vertices below v
 abbrev pub stretch_of : Opened → Dir → ℕ → Stretch
@@ -41,6 +28,10 @@ stretch_of opened dir v =
 -- the byte of the image behind a stretch
 abbrev pub behind : Stretch → ℕ
 behind stretch = stretch.begin + stretch.count * entry_bytes stretch.weighted
+
+-- the read is of pages that hold some byte of the stretch
+abbrev pub IsPageIn : Layout → Stretch → DriveRead → Type 0
+IsPageIn layout stretch one = IsReadIn 1 layout stretch.begin (behind stretch) one
 
 -- some entries of the stretch that lie on one page, the first of them the one behind the first `done`
 pub record IsPartBehind (stretch : Stretch) (done : ℕ) (part : Part) : Type 0 where
@@ -60,7 +51,7 @@ abbrev pub edges_on : Opened → List ℕ → ℕ → Dir → List BadEdge
 edges_on opened image v dir = edges_from v dir 0 (entries_on image (stretch_of opened dir v))
 
 -- the messages of v with this carry along that list
-abbrev pub messages_on : Rules → Opened → List ℕ → ℕ → ℕ → Dir → List Message
+abbrev pub messages_on : Rules → Opened → List ℕ → ℕ → ℕ → Dir → List Mail
 messages_on P opened image v carry dir = map (message_along P carry dir) (entries_on image (stretch_of opened dir v))
 
 -- what f makes of the needed directions, the out-list before the in-list

@@ -7,9 +7,9 @@ use Rattle.fg_build.specs.Opening.{opening_of}
 use Rattle.fg_build.specs.OpeningReads.{opening_reads, whole_reads}
 use Rattle.fg_model.specs.Run.{begun_of}
 use Rattle.fg_outside.specs.declared.drive.Read.{Read}
-use Rattle.fg_outside.specs.Drives.{DriveRead, LogsGrew, LogsGrewByFirst}
+use Rattle.fg_outside.specs.Drives.{DriveRead, EachSame, LogsGrew, LogsGrewByFirst}
 use Rattle.fg_top.specs.declared.jobs.Job.{Job}
-use Rattle.fg_top.specs.Asked.{IsAsked}
+use Rattle.fg_build.specs.Asked.{IsAsked}
 use Rattle.fg_top.specs.declared.jobs.Wish.{Wish}
 use Rattle.fg_top.specs.Outcome.{rules_of, run_on, source_of, wish_for}
 use Rattle.fg_top.specs.Words.{job_of}
@@ -18,7 +18,7 @@ use Rattle.fg_top.specs.Words.{job_of}
 abbrev pub IsAskedBy : Wish → List (List ℕ) → Result Opened Refusal → DriveRead → Type 0
 IsAskedBy wish helds (Err refusal) read = ⊥
 IsAskedBy wish helds (Ok opened) read =
-    IsAsked opened.layout opened.index (rules_of wish.pick) (begun_of (run_on wish opened helds)) read
+    IsAsked 1 opened.layout opened.index (rules_of wish.pick) (begun_of (run_on wish opened helds)) read
 
 -- the logs grew by all reads of opening, and then by pages that the run asks for
 abbrev pub RunReadsAll : {D : Type 0} → (D → Option (List Read)) → Wish → List (List ℕ) → List D → List D → Type 0
@@ -54,6 +54,15 @@ ReadsBy log (Ok (Job.Large pick max unit undirected start nodes edges drives)) h
 
 abbrev pub Reads : {D : Type 0} → (D → Option (List Read)) → List (List ℕ) → List (List ℕ) → List D → List D → Type 0
 Reads log words helds olds news = ReadsBy log (job_of words) helds olds news
+
+-- a job that reads nothing leaves the logs, whatever the drives tell
+abbrev pub KeepsLogsBy : {D : Type 0} → (D → Option (List Read)) → Result Job WordFault → List D → List D → Type 0
+KeepsLogsBy log (Err fault) olds news = EachSame log olds news
+KeepsLogsBy log (Ok (Job.Build unit number undirected)) olds news = EachSame log olds news
+KeepsLogsBy log (Ok (Job.Run pick max each quiet)) olds news = Unit {0}
+KeepsLogsBy log (Ok (Job.Ref pick max each quiet)) olds news = Unit {0}
+KeepsLogsBy log (Ok (Job.Gen start nodes edges)) olds news = EachSame log olds news
+KeepsLogsBy log (Ok (Job.Large pick max unit undirected start nodes edges drives)) olds news = EachSame log olds news
 
 -- what a job that is done has read: the whole opening first, and of a run in memory the whole image
 abbrev pub ReadsAllBy : {D : Type 0} → (D → Option (List Read)) → Result Job WordFault → List (List ℕ) → List D → List D → Type 0

@@ -1,6 +1,7 @@
 //! The runs of the active vertices, up to what they send.
 
 ghost use Rattle.std.specs.Prelude.{◌≡◌, ◌+◌, ◌++◌, [], ◌∷◌, ◌<◌, ◌≤◌, ◌^◌, All, IfOk, OnOk, length, map};
+ghost use Rattle.fg_model.specs.Engine.{RoseUpTo};
 ghost use Rattle.fg_model.specs.Iteration.{active_vertices, own_state, states_after_runs};
 ghost use Rattle.fg_model.specs.Program.{IsInRange};
 ghost use Rattle.fg_top.specs.Sending.{sender_at, senders_of};
@@ -30,6 +31,7 @@ pub fn begin_runs<P: Program, T: Tally>(
     requires few { length states.now ≤ 2 ^ 24 }
     requires room { T.runs tally.old + 2 ^ 24 < 2 ^ 64 }
     ensures entries { T.entries tally.new ≡ T.entries tally.old }
+    ensures counted { RoseUpTo (length (active_vertices (P.rules program.now) phase states.now)) (T.runs tally.old) (T.runs tally.new) }
     ensures ok_states { IfOk result (λ runs. runs.states.items ≡ states_after_runs (P.rules program.now) phase states.now) }
     ensures ok_fit { IfOk result (λ runs. All IsInRange runs.states.items) }
     ensures ok_senders { IfOk result (λ runs. runs.senders.items
@@ -69,6 +71,7 @@ fn begin_run<P: Program, T: Tally>(
     requires fit { IsInRange s }
     requires room { T.runs tally.old + 1 < 2 ^ 64 }
     ensures entries { T.entries tally.new ≡ T.entries tally.old }
+    ensures counted { RoseUpTo (length (senders_of (P.rules program.now) phase v s)) (T.runs tally.old) (T.runs tally.new) }
     ensures ok_own { OnOk result (own.new.items ≡ own.old.items ++ own_state (P.rules program.now) phase v s ∷ []) }
     ensures ok_fit { OnOk result (IsInRange (own_state (P.rules program.now) phase v s)) }
     ensures ok_senders { OnOk result (senders.new.items ≡ senders.old.items ++ senders_of (P.rules program.now) phase v s) }

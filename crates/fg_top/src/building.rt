@@ -1,18 +1,21 @@
 //! The work of building an image from a text.
 
-ghost use Rattle.std.specs.Prelude.{◌≡◌, ◌≢◌, ◌≤◌, ◌⊎◌, IfErr, IfOk, IfSome, OnOk, Some, length};
+ghost use Rattle.std.specs.Prelude.{◌≡◌, ◌≢◌, ◌≤◌, ◌⊎◌, Err, IfErr, IfOk, IfSome, OnOk, Some, length};
 ghost use Rattle.fg_base.specs.Faults.{Rose};
 ghost use Rattle.fg_base.specs.Refusal.{status_of};
 ghost use Rattle.fg_base.specs.declared.limits.TheConstants.{MAX_DRIVES, MAX_UNIT};
 ghost use Rattle.fg_base.specs.declared.refusal.Refusal.TheVariants.{InputFault as input_fault, OutputFault as output_fault};
 ghost use Rattle.fg_build.specs.Building.{AreEmpty};
 ghost use Rattle.fg_build.specs.Layouts.{plan_of};
+ghost use Rattle.fg_build.specs.PagesTold.{EmptyTold};
 ghost use Rattle.fg_outside.specs.Drives.{EachSame, NoneRose, RoomyKept, all_told};
 ghost use Rattle.fg_report.specs.Refusals.{refusal_line};
 ghost use Rattle.fg_text.specs.Pieces.{IsAtEnd, TookFront};
+ghost use Rattle.fg_text.specs.Read.{ReadRefused};
 ghost use Rattle.fg_top.specs.BuildOutcome.{BuildComesTo, input_over};
 ghost use Rattle.fg_top.specs.Built.{AreBuilt, AreLeft, AreOfText, BuildLeaves, IsKeptByBuild};
 ghost use Rattle.fg_top.specs.Ends.{EndsLeaving, IsCause, output_between};
+ghost use Rattle.fg_top.specs.JobLeaves.{BuildingRefused, StoppedReading};
 
 use crate::built_line::write_built;
 use crate::report::refuse;
@@ -35,9 +38,11 @@ fn gather<S: Source, D: Drive>(
     ensures empty { OnOk result (IfSome (all_told D.held drives.old.items) AreEmpty) }
     ensures kept { OnOk result (NoneRose D.faults drives.old.items drives.new.items) }
     ensures cause { IfErr result (λ refusal. IsCause D.faults drives.old.items drives.new.items
-        (BuildComesTo (length drives.old.items) undirected (all_told D.held drives.old.items) (input_over (S.left input.old) (S.faults input.old) (S.faults input.new)))
+        (BuildComesTo (length drives.old.items) undirected (all_told D.held drives.old.items)
+        (input_over (S.left input.old) (S.faults input.old) (S.faults input.new)))
         (Some refusal) (refusal_line refusal)) }
     ensures not_output { IfErr result (λ refusal. refusal ≢ output_fault) }
+    ensures told_err { IfErr result (λ refusal. status_of refusal ≡ 7 → EmptyTold D.told drives.old.items drives.new.items (Err refusal)) }
     ensures held { EachSame D.held drives.old.items drives.new.items }
     ensures log { EachSame D.log drives.old.items drives.new.items }
     ensures room { EachSame D.room drives.old.items drives.new.items }
@@ -45,8 +50,11 @@ fn gather<S: Source, D: Drive>(
     ensures end { OnOk result (IsAtEnd (S.left input.new)) }
     ensures front { TookFront (S.left input.old) (S.left input.new) }
     ensures unread { IfErr result (λ refusal. status_of refusal ≡ 7 → S.left input.new ≡ S.left input.old) }
+    ensures stops { IfErr result (λ refusal. status_of refusal ≡ 6 →
+        ReadRefused undirected (S.left input.old) (S.left input.new) (S.faults input.old) (S.faults input.new) refusal) }
     ensures input_kept { OnOk result (S.faults input.new ≡ S.faults input.old) }
-    ensures input_faults { IfErr result (λ refusal. (S.faults input.new ≡ S.faults input.old) ⊎ (Rose (S.faults input.old) (S.faults input.new) × (refusal ≡ input_fault))) }
+    ensures input_faults { IfErr result (λ refusal. (S.faults input.new ≡ S.faults input.old) ⊎
+        (Rose (S.faults input.old) (S.faults input.new) × (refusal ≡ input_fault))) }
     ensures input_later { S.faults input.old ≤ S.faults input.new }
 {
     if let Err(refusal) = empty(drives) {
@@ -72,18 +80,26 @@ pub fn build_job<S: Source, D: Drive, K: Sink>(
     requires some_unit { 1 ≤ unit }
     requires small_unit { unit ≤ MAX_UNIT }
     ensures ends { EndsLeaving D.faults drives.old.items drives.new.items
-        (BuildComesTo (length drives.old.items) undirected (all_told D.held drives.old.items) (input_over (S.left input.old) (S.faults input.old) (S.faults input.new)))
-        (BuildLeaves D.held D.faults (plan_of (length drives.old.items) unit number) undirected (input_over (S.left input.old) (S.faults input.old) (S.faults input.new)) drives.old.items drives.new.items)
+        (BuildComesTo (length drives.old.items) undirected (all_told D.held drives.old.items)
+        (input_over (S.left input.old) (S.faults input.old) (S.faults input.new)))
+        (BuildLeaves D.held D.faults (plan_of (length drives.old.items) unit number) undirected
+        (input_over (S.left input.old) (S.faults input.old) (S.faults input.new)) drives.old.items drives.new.items)
         (output_between (K.faults out.old) (K.faults out.new) (K.written out.old) (K.written out.new) (K.keeps_back out.new)) result }
     // What the drives hold: whatever the status, where the job is done, and where it was refused before the first append.
-    ensures drives { AreLeft D.held D.faults (plan_of (length drives.old.items) unit number) undirected (input_over (S.left input.old) (S.faults input.old) (S.faults input.new)) drives.old.items drives.new.items }
-    ensures built { result ≡ 0 → AreBuilt D.held D.faults (plan_of (length drives.old.items) unit number) undirected (input_over (S.left input.old) (S.faults input.old) (S.faults input.new)) drives.old.items drives.new.items }
+    ensures drives { AreLeft D.held D.faults (plan_of (length drives.old.items) unit number) undirected
+        (input_over (S.left input.old) (S.faults input.old) (S.faults input.new)) drives.old.items drives.new.items }
+    ensures built { result ≡ 0 → AreBuilt D.held D.faults (plan_of (length drives.old.items) unit number) undirected
+        (input_over (S.left input.old) (S.faults input.old) (S.faults input.new)) drives.old.items drives.new.items }
     ensures unbuilt { result ≢ 0 → result ≢ 4 → result ≢ 5 → EachSame D.held drives.old.items drives.new.items }
-    ensures sure { IsKeptByBuild D.room D.faults (plan_of (length drives.old.items) unit number) undirected (S.left input.old) drives.old.items drives.new.items }
+    ensures sure { IsKeptByBuild D.room D.faults (plan_of (length drives.old.items) unit number) undirected (S.left input.old) drives.old.items
+        drives.new.items }
     ensures reads { EachSame D.log drives.old.items drives.new.items }
-    // Some first part of the text was taken, none of it where a drive isn't empty, and all of it where the job is done.
+    ensures told { result ≡ 7 → BuildingRefused D.told drives.old.items drives.new.items }
+    // Some first part of the text was taken: none of it where a drive isn't empty, no more than up to the piece in which a
+    // refused line ends, and all of it where the job is done.
     ensures input { TookFront (S.left input.old) (S.left input.new) }
     ensures unread { result ≡ 7 → S.left input.new ≡ S.left input.old }
+    ensures stops { result ≡ 6 → StoppedReading undirected (S.left input.old) (S.left input.new) (S.faults input.old) (S.faults input.new) }
     ensures input_end { result ≡ 0 → IsAtEnd (S.left input.new) }
     ensures input_faults { (S.faults input.new ≡ S.faults input.old) ⊎ (Rose (S.faults input.old) (S.faults input.new) × ((result ≡ 3) ⊎ (result ≡ 4))) }
     ensures input_later { S.faults input.old ≤ S.faults input.new }

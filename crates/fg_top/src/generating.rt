@@ -35,7 +35,8 @@ pub fn gen_job<K: Sink>(start: u64, nodes: u32, edges: u32, out: &mut K) -> u8
     requires some_nodes { 1 ≤ nodes }
     requires few_nodes { nodes ≤ MAX_VERTICES }
     requires few_edges { edges ≤ MAX_ENTRIES }
-    ensures written { IsWritten (output_between (K.faults out.old) (K.faults out.new) (K.written out.old) (K.written out.new) (K.keeps_back out.new)) None (generated_text start nodes edges) result }
+    ensures written { IsWritten (output_between (K.faults out.old) (K.faults out.new) (K.written out.old) (K.written out.new) (K.keeps_back out.new))
+        None (generated_text start nodes edges) result }
     ensures ends { EndsAlone (GenComesTo start nodes edges)
         (output_between (K.faults out.old) (K.faults out.new) (K.written out.old) (K.written out.new) (K.keeps_back out.new)) result }
 {

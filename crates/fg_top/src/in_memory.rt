@@ -1,15 +1,18 @@
 //! The work of a run over the whole graph in memory.
 
 ghost use Rattle.std.specs.Prelude.{◌≡◌, ◌≤◌, ◌≢◌, IfErr, IfOk, IfSome, OnOk, Some, length};
+ghost use Rattle.fg_base.specs.Refusal.{status_of};
 ghost use Rattle.fg_base.specs.declared.limits.TheConstants.{MAX_DRIVES};
 ghost use Rattle.fg_base.specs.declared.refusal.Refusal.TheVariants.{OutputFault as output_fault};
 ghost use Rattle.fg_build.specs.Answers.{HoldWhole, OpenedFits, ReadCounts};
 ghost use Rattle.fg_build.specs.Opening.{graph_on};
 ghost use Rattle.fg_build.specs.OpeningReads.{whole_reads};
+ghost use Rattle.fg_build.specs.PagesTold.{RefusedTold};
 ghost use Rattle.fg_model.specs.Graph.{IsWithinLimits};
 ghost use Rattle.fg_outside.specs.Drives.{EachSame, LogsGrew, LogsGrewByFirst, NoneRose, RoomyKept, all_told};
 ghost use Rattle.fg_report.specs.Refusals.{refusal_line};
 ghost use Rattle.fg_top.specs.Ends.{Ends, EndsAlone, IsCause, LeavesHeld, output_between};
+ghost use Rattle.fg_top.specs.JobLeaves.{OpeningRefused};
 ghost use Rattle.fg_top.specs.Meaning.{MeansWish};
 ghost use Rattle.fg_top.specs.Outcome.{WishComesTo, head_of, held_graph, outcome_of, rules_of, run_in, run_outcome};
 ghost use Rattle.fg_top.specs.Reads.{ref_reads};
@@ -64,7 +67,8 @@ fn report_run<P: Program, K: Sink>(
 ) -> u8
     requires picked { P.rules program.now ≡ rules_of wish.pick }
     requires within { IsWithinLimits graph.now }
-    ensures { EndsAlone
+    ensures began { result ≢ 7 }
+    ensures ends { EndsAlone
         (RunComesTo (rules_of wish.pick) wish (Some graph.now) (run_in wish))
         (output_between (K.faults out.old) (K.faults out.new) (K.written out.old) (K.written out.new) (K.keeps_back out.new)) result }
 {
@@ -81,7 +85,8 @@ fn report_run<P: Program, K: Sink>(
 /// The same of whichever program is picked.
 fn run_picked<K: Sink>(alloc: Global, wish: Wish, graph: &Graph, out: &mut K) -> u8
     requires { IsWithinLimits graph.now }
-    ensures { EndsAlone
+    ensures began { result ≢ 7 }
+    ensures ends { EndsAlone
         (RunComesTo (rules_of wish.pick) wish (Some graph.now) (run_in wish))
         (output_between (K.faults out.old) (K.faults out.new) (K.written out.old) (K.written out.new) (K.keeps_back out.new)) result }
 {
@@ -102,14 +107,18 @@ struct Loaded {
 fn load<D: Drive>(alloc: Global, wish: Wish, drives: &mut Vec<D>) -> Result<Loaded, Refusal>
     requires some { 1 ≤ length drives.old.items }
     requires few { length drives.old.items ≤ MAX_DRIVES }
-    ensures outcome { IfOk result (λ loaded. IfSome (all_told D.held drives.old.items) (λ helds. outcome_of wish helds ≡ run_outcome wish (head_of wish.pick loaded.header) (run_in wish loaded.graph))) }
+    ensures outcome { IfOk result (λ loaded. IfSome (all_told D.held drives.old.items)
+        (λ helds. outcome_of wish helds ≡ run_outcome wish (head_of wish.pick loaded.header) (run_in wish loaded.graph))) }
     ensures within { IfOk result (λ loaded. IsWithinLimits loaded.graph) }
     ensures kept { OnOk result (NoneRose D.faults drives.old.items drives.new.items) }
-    ensures cause { IfErr result (λ refusal. IsCause D.faults drives.old.items drives.new.items (WishComesTo wish (all_told D.held drives.old.items)) (Some refusal) (refusal_line refusal)) }
+    ensures cause { IfErr result (λ refusal. IsCause D.faults drives.old.items drives.new.items (WishComesTo wish (all_told D.held drives.old.items))
+        (Some refusal) (refusal_line refusal)) }
     ensures not_output { IfErr result (λ refusal. refusal ≢ output_fault) }
+    ensures told_err { IfErr result (λ refusal. status_of refusal ≡ 7 → RefusedTold D.told drives.old.items drives.new.items refusal) }
     ensures means { OnOk result (IfSome (all_told D.held drives.old.items) (λ helds. MeansWish wish (held_graph helds))) }
     ensures reads { IfSome (all_told D.held drives.old.items) (λ helds. LogsGrewByFirst D.log (ref_reads wish helds) drives.old.items drives.new.items) }
-    ensures all_read { OnOk result (IfSome (all_told D.held drives.old.items) (λ helds. LogsGrew D.log (ref_reads wish helds) drives.old.items drives.new.items)) }
+    ensures all_read { OnOk result (IfSome (all_told D.held drives.old.items)
+        (λ helds. LogsGrew D.log (ref_reads wish helds) drives.old.items drives.new.items)) }
     ensures held { EachSame D.held drives.old.items drives.new.items }
     ensures sure { RoomyKept D.room D.faults drives.old.items drives.new.items }
 {
@@ -138,8 +147,10 @@ pub fn ref_job<D: Drive, K: Sink>(alloc: Global, wish: Wish, drives: &mut Vec<D>
     ensures drives { EachSame D.held drives.old.items drives.new.items }
     ensures sure { RoomyKept D.room D.faults drives.old.items drives.new.items }
     ensures reads { IfSome (all_told D.held drives.old.items) (λ helds. LogsGrewByFirst D.log (ref_reads wish helds) drives.old.items drives.new.items) }
+    ensures told { result ≡ 7 → OpeningRefused D.told drives.old.items drives.new.items }
     ensures means { result ≡ 0 → IfSome (all_told D.held drives.old.items) (λ helds. MeansWish wish (held_graph helds)) }
-    ensures all_read { result ≡ 0 → IfSome (all_told D.held drives.old.items) (λ helds. LogsGrew D.log (ref_reads wish helds) drives.old.items drives.new.items) }
+    ensures all_read { result ≡ 0 → IfSome (all_told D.held drives.old.items)
+        (λ helds. LogsGrew D.log (ref_reads wish helds) drives.old.items drives.new.items) }
 {
     let Loaded { header, graph } = match load(alloc, wish, drives) {
         Ok(loaded) => loaded,

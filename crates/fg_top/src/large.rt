@@ -9,7 +9,7 @@ ghost use Rattle.fg_top.specs.Ends.{EndsAlone, output_between};
 ghost use Rattle.fg_top.specs.LargeOutcome.{LargeComesTo, generated_graph};
 ghost use Rattle.fg_top.specs.MadeDrives.{AreEmptyFor, HoldGenerated};
 ghost use Rattle.fg_top.specs.Meaning.{MeansWish};
-ghost use Rattle.fg_top.specs.Tallies.{RoseByWish, tallied};
+ghost use Rattle.fg_top.specs.Tallies.{CameToEnd, RoseByWish, RoseWithin, Stood, begins_of, tallied};
 
 use crate::jobs::{Recipe, Wish};
 use crate::report::refuse;
@@ -29,7 +29,8 @@ fn empty_drives(alloc: Global, layout: &Layout) -> Result<Vec<RoomDrive>, Memory
     requires some_unit { 1 ≤ layout.now.unit }
     requires small_unit { layout.now.unit ≤ MAX_UNIT }
     requires few_pages { layout.now.pages ≤ MAX_IMAGE_PAGES }
-    ensures { IfOk result (λ drives. AreEmptyFor ⟦<RoomDrive as Drive>⟧.held ⟦<RoomDrive as Drive>⟧.room ⟦<RoomDrive as Drive>⟧.faults layout.now drives.items) }
+    ensures { IfOk result (λ drives. AreEmptyFor ⟦<RoomDrive as Drive>⟧.held ⟦<RoomDrive as Drive>⟧.room ⟦<RoomDrive as Drive>⟧.faults layout.now
+        drives.items) }
 {
     let mut drives = Vec::with_capacity(alloc, layout.drives as usize)?;
     for drive in 0..layout.drives {
@@ -109,7 +110,12 @@ pub fn large_job<K: Sink, T: Tally>(
     ensures ends { EndsAlone (LargeComesTo wish recipe)
         (output_between (K.faults out.old) (K.faults out.new) (K.written out.old) (K.written out.new) (K.keeps_back out.new)) result }
     ensures means { result ≡ 0 → MeansWish wish (generated_graph recipe) }
-    ensures tally { result ≡ 0 → RoseByWish wish (generated_graph recipe) (tallied (T.runs tally.old) (T.runs tally.new) (T.entries tally.old) (T.entries tally.new)) }
+    ensures tally { result ≡ 0 → RoseByWish wish (generated_graph recipe)
+        (tallied (T.runs tally.old) (T.runs tally.new) (T.entries tally.old) (T.entries tally.new)) }
+    ensures tally_went { RoseWithin (CameToEnd result) (begins_of wish (generated_graph recipe))
+        (tallied (T.runs tally.old) (T.runs tally.new) (T.entries tally.old) (T.entries tally.new)) }
+    ensures tally_stands { result ≡ 7 → Stood
+        (tallied (T.runs tally.old) (T.runs tally.new) (T.entries tally.old) (T.entries tally.new)) }
 {
     let mut drives = match make_drives(alloc, recipe, unit, count) {
         Ok(drives) => drives,

@@ -12,11 +12,11 @@ ghost use Rattle.fg_outside.specs.Drives.{EachSame, all_told};
 ghost use Rattle.fg_top.specs.BuildOutcome.{input_over};
 ghost use Rattle.fg_top.specs.Ends.{EndsLeaving, output_between};
 ghost use Rattle.fg_top.specs.GenOutcome.{IsGenerated};
-ghost use Rattle.fg_top.specs.JobLeaves.{CountsInput, DoneBy, EndsInput, KeepsBy, LeavesAt, LeavesBy, TakesBy};
+ghost use Rattle.fg_top.specs.JobLeaves.{CountsInput, DoneBy, EndsInput, KeepsBy, LeavesAt, LeavesBy, RefusesAsTold, StopsBy, TakesBy};
 ghost use Rattle.fg_top.specs.JobOutcome.{ComesTo};
 ghost use Rattle.fg_top.specs.Meaning.{Means};
-ghost use Rattle.fg_top.specs.Reads.{Reads, ReadsAll};
-ghost use Rattle.fg_top.specs.Tallies.{IsTallied, Stands, tallied};
+ghost use Rattle.fg_top.specs.Reads.{KeepsLogsBy, Reads, ReadsAll};
+ghost use Rattle.fg_top.specs.Tallies.{CameToEnd, IsTallied, RoseWithin, StandsBy, begins_by, tallied};
 ghost use Rattle.fg_top.specs.Words.{job_of, names_of};
 
 mod begin_runs;
@@ -75,25 +75,44 @@ pub fn flash<R: Wait + Threads + Sync, S: Source, D: Drive + Send, K: Sink, T: T
     requires room_of_entries { T.entries tally.old ≤ 2 ^ 62 }
     // The status, its cause, what it leaves on the drives, and the text that was written.
     ensures ends { EndsLeaving D.faults drives.old.items drives.new.items
-        (ComesTo (map string_bytes words.now.items) (length drives.old.items) (all_told D.held drives.old.items) (input_over (S.left input.old) (S.faults input.old) (S.faults input.new)))
-        (LeavesAt D.held D.faults (job_of (map string_bytes words.now.items)) (input_over (S.left input.old) (S.faults input.old) (S.faults input.new)) drives.old.items drives.new.items)
+        (ComesTo (map string_bytes words.now.items) (length drives.old.items) (all_told D.held drives.old.items)
+        (input_over (S.left input.old) (S.faults input.old) (S.faults input.new)))
+        (LeavesAt D.held D.faults (job_of (map string_bytes words.now.items))
+        (input_over (S.left input.old) (S.faults input.old) (S.faults input.new)) drives.old.items drives.new.items)
         (output_between (K.faults out.old) (K.faults out.new) (K.written out.old) (K.written out.new) (K.keeps_back out.new)) result }
-    ensures generated { IsGenerated (job_of (map string_bytes words.now.items)) (output_between (K.faults out.old) (K.faults out.new) (K.written out.old) (K.written out.new) (K.keeps_back out.new)) result }
+    ensures generated { IsGenerated (job_of (map string_bytes words.now.items))
+        (output_between (K.faults out.old) (K.faults out.new) (K.written out.old) (K.written out.new) (K.keeps_back out.new)) result }
     // The drives come back in order, with what the job may have appended, and were only read as it may.
-    ensures drives { LeavesBy D.held D.faults (job_of (map string_bytes words.now.items)) (input_over (S.left input.old) (S.faults input.old) (S.faults input.new)) drives.old.items drives.new.items }
-    ensures done { result ≡ 0 → DoneBy D.held D.faults (job_of (map string_bytes words.now.items)) (input_over (S.left input.old) (S.faults input.old) (S.faults input.new)) drives.old.items drives.new.items }
+    ensures drives { LeavesBy D.held D.faults (job_of (map string_bytes words.now.items))
+        (input_over (S.left input.old) (S.faults input.old) (S.faults input.new)) drives.old.items drives.new.items }
+    ensures done { result ≡ 0 → DoneBy D.held D.faults (job_of (map string_bytes words.now.items))
+        (input_over (S.left input.old) (S.faults input.old) (S.faults input.new)) drives.old.items drives.new.items }
     ensures undone { result ≢ 0 → result ≢ 4 → result ≢ 5 → EachSame D.held drives.old.items drives.new.items }
+    ensures told { result ≡ 7 → RefusesAsTold D.told (job_of (map string_bytes words.now.items)) drives.old.items drives.new.items }
     ensures sure { KeepsBy D.room D.faults (job_of (map string_bytes words.now.items)) (S.left input.old) drives.old.items drives.new.items }
-    ensures reads { IfSome (all_told D.held drives.old.items) (λ helds. Reads D.log (map string_bytes words.now.items) helds drives.old.items drives.new.items) }
-    ensures all_read { result ≡ 0 → IfSome (all_told D.held drives.old.items) (λ helds. ReadsAll D.log (map string_bytes words.now.items) helds drives.old.items drives.new.items) }
-    // Where the job is done, the tally rose by what it ran; a job that runs nothing on drives leaves it.
-    ensures tally { result ≡ 0 → IfSome (all_told D.held drives.old.items) (λ helds. IsTallied (map string_bytes words.now.items) helds (tallied (T.runs tally.old) (T.runs tally.new) (T.entries tally.old) (T.entries tally.new))) }
-    ensures tally_stands { Stands (map string_bytes words.now.items) (tallied (T.runs tally.old) (T.runs tally.new) (T.entries tally.old) (T.entries tally.new)) }
+    ensures reads { IfSome (all_told D.held drives.old.items)
+        (λ helds. Reads D.log (map string_bytes words.now.items) helds drives.old.items drives.new.items) }
+    ensures logs { KeepsLogsBy D.log (job_of (map string_bytes words.now.items)) drives.old.items drives.new.items }
+    ensures all_read { result ≡ 0 → IfSome (all_told D.held drives.old.items)
+        (λ helds. ReadsAll D.log (map string_bytes words.now.items) helds drives.old.items drives.new.items) }
+    // The tally rose with the iterations that began, and where the job is done by what they ran; a job that runs nothing on
+    // drives leaves it, and so does one whose drives are refused for what they hold.
+    ensures tally { result ≡ 0 → IfSome (all_told D.held drives.old.items)
+        (λ helds. IsTallied (map string_bytes words.now.items) helds
+        (tallied (T.runs tally.old) (T.runs tally.new) (T.entries tally.old) (T.entries tally.new))) }
+    ensures tally_went { IfSome (all_told D.held drives.old.items)
+        (λ helds. RoseWithin (CameToEnd result) (begins_by (job_of (map string_bytes words.now.items)) helds)
+        (tallied (T.runs tally.old) (T.runs tally.new) (T.entries tally.old) (T.entries tally.new))) }
+    ensures tally_stands { StandsBy (job_of (map string_bytes words.now.items)) result
+        (tallied (T.runs tally.old) (T.runs tally.new) (T.entries tally.old) (T.entries tally.new)) }
     // Where the job is done, what its values mean.
     ensures meaning { result ≡ 0 → IfSome (all_told D.held drives.old.items) (λ helds. Means (map string_bytes words.now.items) helds) }
-    // What was taken of the input, which is nothing where the drives were refused for what they hold, and whether it failed.
+    // What was taken of the input: nothing where the drives were refused for what they hold, and all of it where the job is
+    // done; where its text is refused reading stopped behind the refused line. And whether it failed.
     ensures input { TakesBy (job_of (map string_bytes words.now.items)) (S.left input.old) (S.left input.new) }
     ensures unread { result ≡ 7 → S.left input.new ≡ S.left input.old }
+    ensures stops { result ≡ 6 → StopsBy (job_of (map string_bytes words.now.items)) (S.left input.old) (S.left input.new) (S.faults input.old)
+        (S.faults input.new) }
     ensures input_end { result ≡ 0 → EndsInput (job_of (map string_bytes words.now.items)) (S.left input.new) }
     ensures input_faults { CountsInput (job_of (map string_bytes words.now.items)) (S.faults input.old) (S.faults input.new) result }
     ensures input_later { S.faults input.old ≤ S.faults input.new }

@@ -1,17 +1,20 @@
 //! The drives of a job are opened, and its source is looked at.
 
-ghost use Rattle.std.specs.Prelude.{◌≡◌, ◌≢◌, ◌≤◌, None, Ok, Some, IfErr, IfOk, IfSome, MatchOption, OnOk, length};
+ghost use Rattle.std.specs.Prelude.{◌≡◌, ◌≢◌, ◌≤◌, [], None, Ok, Some, IfErr, IfOk, IfSome, MatchOption, OnOk, length};
+ghost use Rattle.fg_base.specs.Refusal.{status_of};
 ghost use Rattle.fg_base.specs.declared.limits.TheConstants.{MAX_DRIVES};
 ghost use Rattle.fg_base.specs.declared.refusal.Refusal.TheVariants.{OutputFault as output_fault};
 ghost use Rattle.fg_build.specs.Answers.{HoldWhole, OpenedFits};
 ghost use Rattle.fg_build.specs.Opening.{opening_of};
 ghost use Rattle.fg_build.specs.OpeningReads.{opening_reads};
+ghost use Rattle.fg_build.specs.PagesTold.{RefusedTold};
 ghost use Rattle.fg_outside.specs.Drives.{EachSame, LogsGrew, LogsGrewByFirst, NoneRose, RoomyKept, all_told};
 ghost use Rattle.fg_report.specs.Refusals.{refusal_line};
 ghost use Rattle.fg_top.specs.Ends.{IsCause};
 ghost use Rattle.fg_top.specs.Meaning.{MeansWish};
 ghost use Rattle.fg_top.specs.Outcome.{WishComesTo, held_graph, source_of};
 ghost use Rattle.fg_top.specs.Running.{IsSourced};
+ghost use Rattle.fg_top.specs.Tallies.{begins_of};
 
 use crate::jobs::{Pick, Wish};
 use fg_base::Refusal;
@@ -56,11 +59,16 @@ pub fn open_sourced<D: Drive>(
     ensures told { IfOk result (λ opened. HoldWhole D.told opened.layout drives.new.items) }
     ensures sourced { IfOk result (λ opened. IsSourced wish.pick opened.header.n) }
     ensures kept { OnOk result (NoneRose D.faults drives.old.items drives.new.items) }
-    ensures cause { IfErr result (λ refusal. IsCause D.faults drives.old.items drives.new.items (WishComesTo wish (all_told D.held drives.old.items)) (Some refusal) (refusal_line refusal)) }
+    ensures cause { IfErr result (λ refusal. IsCause D.faults drives.old.items drives.new.items (WishComesTo wish (all_told D.held drives.old.items))
+        (Some refusal) (refusal_line refusal)) }
     ensures not_output { IfErr result (λ refusal. refusal ≢ output_fault) }
+    ensures told_err { IfErr result (λ refusal. status_of refusal ≡ 7 → RefusedTold D.told drives.old.items drives.new.items refusal) }
+    ensures unbegun { IfErr result (λ refusal. status_of refusal ≡ 8 →
+        IfSome (all_told D.held drives.old.items) (λ helds. begins_of wish (held_graph helds) ≡ [])) }
     ensures means { OnOk result (IfSome (all_told D.held drives.old.items) (λ helds. MeansWish wish (held_graph helds))) }
     ensures reads { IfSome (all_told D.held drives.old.items) (λ helds. LogsGrewByFirst D.log (opening_reads helds) drives.old.items drives.new.items) }
-    ensures all_read { OnOk result (IfSome (all_told D.held drives.old.items) (λ helds. LogsGrew D.log (opening_reads helds) drives.old.items drives.new.items)) }
+    ensures all_read { OnOk result (IfSome (all_told D.held drives.old.items)
+        (λ helds. LogsGrew D.log (opening_reads helds) drives.old.items drives.new.items)) }
     ensures held { EachSame D.held drives.old.items drives.new.items }
     ensures room { EachSame D.room drives.old.items drives.new.items }
     ensures sure { RoomyKept D.room D.faults drives.old.items drives.new.items }

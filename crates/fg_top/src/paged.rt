@@ -1,19 +1,18 @@
 //! A run by pages that are read from drives when they are needed.
 
-ghost use Rattle.std.specs.Prelude.{◌≡◌, ◌+◌, ◌≤◌, ◌^◌, Ok, Err, IfErr, IfOk, IfSome, OnOk, length};
-ghost use Rattle.fg_base.specs.Faults.{Rose};
+ghost use Rattle.std.specs.Prelude.{◌≡◌, ◌≤◌, ◌^◌, IfOk, IfSome, OnOk, length};
 ghost use Rattle.fg_build.specs.Answers.{HoldWhole, OpenedFits};
 ghost use Rattle.fg_build.specs.Opening.{graph_on};
-ghost use Rattle.fg_model.specs.declared.run.RunFault.{RunFault};
-ghost use Rattle.fg_model.specs.Engine.{MatchRunFault};
-ghost use Rattle.fg_model.specs.Run.{answer_of, begun_of, entries_of, run, runs_of};
-ghost use Rattle.fg_model.specs.Watch.{Grew, ShownAll, ShownPart, ShownSome};
+ghost use Rattle.fg_model.specs.Engine.{IsWhole, ShownAs, TellsEnd, TellsFaults};
+ghost use Rattle.fg_model.specs.Run.{begun_of, run};
+ghost use Rattle.fg_model.specs.Watch.{Grew};
 ghost use Rattle.fg_outside.specs.Drives.{EachSame, LogsGrewBy, NoneRose, RoomyKept, RoseFirst, all_told};
-ghost use Rattle.fg_top.specs.Asked.{IsAsked};
+ghost use Rattle.fg_build.specs.Asked.{IsAsked};
+ghost use Rattle.fg_top.specs.Tallies.{RoseByRun, RoseWithin, tallied};
 
 use crate::pages::{Pages, opening_states};
-use fg_base::Tally;
 use fg_base::limits::PAGE_BYTES;
+use fg_base::{Items, Tally};
 use fg_build::Opened;
 use fg_model::{End, Program, RunFault, Watch, run_engine};
 use fg_outside::Drive;
@@ -47,33 +46,28 @@ pub fn run_paged<P: Program, D: Drive, W: Watch, T: Tally>(
     // of the drives
     ensures held { EachSame D.held drives.items result.drives.items }
     ensures sure { RoomyKept D.room D.faults drives.items result.drives.items }
-    ensures reads { IfSome (all_told D.held drives.items) (λ helds. LogsGrewBy (IsAsked opened.layout opened.index (P.rules program.now) (begun_of (run (P.rules program.now) (graph_on opened helds) max))) D.log drives.items result.drives.items) }
+    ensures reads { IfSome (all_told D.held drives.items) (λ helds. LogsGrewBy
+        (IsAsked 1 opened.layout opened.index (P.rules program.now) (begun_of (run (P.rules program.now) (graph_on opened helds) max))) D.log
+        drives.items result.drives.items) }
     // of the watch
     ensures same_told { W.told watch.new ≡ W.told watch.old }
     ensures same_borrows { W.same_borrows watch.old watch.new }
     ensures grew { Grew (W.notes watch.old) (W.notes watch.new) }
+    // of each answer: whose count rose, whether the run ends so, what was shown, and how the tally rose
+    ensures faults { TellsFaults result.answer (NoneRose D.faults drives.items result.drives.items)
+        (λ drive. RoseFirst D.faults drive drives.items result.drives.items) (W.faults watch.old) (W.faults watch.new) }
+    ensures answer { IfSome (all_told D.held drives.items)
+        (λ helds. TellsEnd result.answer (run (P.rules program.now) (graph_on opened helds) max)) }
+    ensures shown { IfSome (all_told D.held drives.items) (λ helds. ShownAs result.answer (W.told watch.old)
+        (run (P.rules program.now) (graph_on opened helds) max).finished (W.notes watch.old) (W.notes watch.new)) }
+    ensures tally { IfSome (all_told D.held drives.items) (λ helds. RoseWithin (IsWhole result.answer)
+        (begun_of (run (P.rules program.now) (graph_on opened helds) max))
+        (tallied (T.runs tally.old) (T.runs tally.new) (T.entries tally.old) (T.entries tally.new))) }
     // of a run with an end
-    ensures ok { IfOk result.answer (λ end. IfSome (all_told D.held drives.items) (λ helds. answer_of (run (P.rules program.now) (graph_on opened helds) max) ≡ Ok end)) }
     ensures few { IfOk result.answer (λ end. length end.states ≤ 2 ^ 24) }
-    ensures ok_kept { OnOk result.answer (NoneRose D.faults drives.items result.drives.items) }
-    ensures ok_watch { OnOk result.answer (W.faults watch.new ≡ W.faults watch.old) }
-    ensures ok_shown { OnOk result.answer (IfSome (all_told D.held drives.items) (λ helds. ShownAll (W.told watch.old) (run (P.rules program.now) (graph_on opened helds) max).finished (W.notes watch.old) (W.notes watch.new))) }
-    ensures ok_runs { OnOk result.answer (IfSome (all_told D.held drives.items) (λ helds. T.runs tally.new ≡ T.runs tally.old + runs_of (run (P.rules program.now) (graph_on opened helds) max).finished)) }
-    ensures ok_entries { OnOk result.answer (IfSome (all_told D.held drives.items) (λ helds. T.entries tally.new ≡ T.entries tally.old + entries_of (run (P.rules program.now) (graph_on opened helds) max).finished)) }
-    // of each fault: whose count rose, whether the run ends so, and what was shown
-    ensures faults { IfErr result.answer (λ fault. MatchRunFault fault
-        (W.faults watch.new ≡ W.faults watch.old)
-        (λ drive. RoseFirst D.faults drive drives.items result.drives.items × (W.faults watch.new ≡ W.faults watch.old))
-        (λ bad. NoneRose D.faults drives.items result.drives.items × (W.faults watch.new ≡ W.faults watch.old))
-        (NoneRose D.faults drives.items result.drives.items × Rose (W.faults watch.old) (W.faults watch.new))) }
-    ensures bad_edge { IfErr result.answer (λ fault. IfSome (all_told D.held drives.items) (λ helds. MatchRunFault fault (Unit {0}) (λ drive. Unit {0})
-        (λ bad. answer_of (run (P.rules program.now) (graph_on opened helds) max) ≡ Err (RunFault.BadEdge bad))
-        (Unit {0}))) }
-    ensures shown { IfErr result.answer (λ fault. IfSome (all_told D.held drives.items) (λ helds. MatchRunFault fault
-        (ShownSome (W.told watch.old) (run (P.rules program.now) (graph_on opened helds) max).finished (W.notes watch.old) (W.notes watch.new))
-        (λ drive. ShownSome (W.told watch.old) (run (P.rules program.now) (graph_on opened helds) max).finished (W.notes watch.old) (W.notes watch.new))
-        (λ bad. ShownAll (W.told watch.old) (run (P.rules program.now) (graph_on opened helds) max).finished (W.notes watch.old) (W.notes watch.new))
-        (ShownPart (W.told watch.old) (run (P.rules program.now) (graph_on opened helds) max).finished (W.notes watch.old) (W.notes watch.new)))) }
+    ensures ok_tally { OnOk result.answer (IfSome (all_told D.held drives.items) (λ helds.
+        RoseByRun (run (P.rules program.now) (graph_on opened helds) max)
+        (tallied (T.runs tally.old) (T.runs tally.new) (T.entries tally.old) (T.entries tally.new)))) }
 {
     let Ok(states) = opening_states(alloc, program, &opened) else {
         return Paged {
@@ -91,8 +85,9 @@ pub fn run_paged<P: Program, D: Drive, W: Watch, T: Tally>(
         drives,
         opened,
         page,
+        states: Items::from_vec(states),
     };
-    let answer = run_engine(alloc, &mut pages, program, states, max, watch, tally);
+    let answer = run_engine(alloc, &mut pages, program, max, watch, tally);
     let Pages { drives, .. } = pages;
     Paged { drives, answer }
 }

@@ -46,7 +46,8 @@ fn write_refused<K: Sink>(out: &mut K, refusal: &Refusal) -> Result<(), Failed>
 /// Writes a refusal's line; the status is the refusal's, or the output's where a put or the flush fails.
 pub fn refuse<K: Sink>(out: &mut K, refusal: Refusal) -> u8
     requires { refusal ≢ output_fault }
-    ensures { IsWritten (output_between (K.faults out.old) (K.faults out.new) (K.written out.old) (K.written out.new) (K.keeps_back out.new)) (Some refusal) (refusal_line refusal) result }
+    ensures { IsWritten (output_between (K.faults out.old) (K.faults out.new) (K.written out.old) (K.written out.new) (K.keeps_back out.new))
+        (Some refusal) (refusal_line refusal) result }
 {
     if let Err(_) = write_refused(out, &refusal) {
         return Refusal::OutputFault.status();
@@ -161,7 +162,8 @@ pub fn close_run<P: Program, K: Sink>(
     answer: Result<End, RunFault>,
 ) -> u8
     requires { IfOk answer (λ end. length end.states ≤ 2 ^ 32) }
-    ensures { IsClosed quiet (P.rules program.now).show (output_between (K.faults out.old) (K.faults out.new) (K.written out.old) (K.written out.new) (K.keeps_back out.new)) answer result }
+    ensures { IsClosed quiet (P.rules program.now).show (output_between (K.faults out.old) (K.faults out.new) (K.written out.old) (K.written out.new)
+        (K.keeps_back out.new)) answer result }
 {
     let end = match answer {
         Ok(end) => end,

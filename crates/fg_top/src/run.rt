@@ -1,15 +1,17 @@
 //! The work of a run over pages that are read from the drives.
 
-ghost use Rattle.std.specs.Prelude.{◌≡◌, ◌≤◌, ◌^◌, IfSome, Ok, length};
+ghost use Rattle.std.specs.Prelude.{◌≡◌, ◌≢◌, ◌≤◌, ◌^◌, IfSome, Ok, length};
 ghost use Rattle.fg_base.specs.declared.limits.TheConstants.{MAX_DRIVES};
 ghost use Rattle.fg_build.specs.Answers.{HoldWhole, OpenedFits};
+ghost use Rattle.fg_model.specs.Run.{begun_of};
 ghost use Rattle.fg_outside.specs.Drives.{EachSame, LogsGrewBy, RoomyKept, all_told};
 ghost use Rattle.fg_top.specs.Ends.{Ends, LeavesHeld, output_between};
+ghost use Rattle.fg_top.specs.JobLeaves.{OpeningRefused};
 ghost use Rattle.fg_top.specs.Meaning.{MeansWish};
 ghost use Rattle.fg_top.specs.Outcome.{WishComesTo, held_graph, rules_of, run_on};
 ghost use Rattle.fg_top.specs.Reads.{IsAskedBy, RunReads, RunReadsAll};
 ghost use Rattle.fg_top.specs.Running.{RunComesTo};
-ghost use Rattle.fg_top.specs.Tallies.{RoseByRun, RoseByWish, tallied};
+ghost use Rattle.fg_top.specs.Tallies.{CameToEnd, RoseByRun, RoseByWish, RoseWithin, Stood, begins_of, tallied};
 
 use crate::jobs::{Pick, Wish};
 use crate::opening::open_sourced;
@@ -53,7 +55,12 @@ fn report_run<P: Program, D: Drive, K: Sink, T: Tally>(
         (RunComesTo (rules_of wish.pick) wish (all_told D.held drives.items) (run_on wish opened))
         (LeavesHeld D.held drives.items result.drives.items)
         (output_between (K.faults out.old) (K.faults out.new) (K.written out.old) (K.written out.new) (K.keeps_back out.new)) result.status }
-    ensures tally { result.status ≡ 0 → IfSome (all_told D.held drives.items) (λ helds. RoseByRun (run_on wish opened helds) (tallied (T.runs tally.old) (T.runs tally.new) (T.entries tally.old) (T.entries tally.new))) }
+    ensures tally { result.status ≡ 0 → IfSome (all_told D.held drives.items)
+        (λ helds. RoseByRun (run_on wish opened helds) (tallied (T.runs tally.old) (T.runs tally.new) (T.entries tally.old) (T.entries tally.new))) }
+    ensures tally_went { IfSome (all_told D.held drives.items)
+        (λ helds. RoseWithin (CameToEnd result.status) (begun_of (run_on wish opened helds))
+        (tallied (T.runs tally.old) (T.runs tally.new) (T.entries tally.old) (T.entries tally.new))) }
+    ensures began { result.status ≢ 7 }
 {
     let mut watch = ReportWatch {
         program,
@@ -91,7 +98,12 @@ fn run_picked<D: Drive, K: Sink, T: Tally>(
         (RunComesTo (rules_of wish.pick) wish (all_told D.held drives.items) (run_on wish opened))
         (LeavesHeld D.held drives.items result.drives.items)
         (output_between (K.faults out.old) (K.faults out.new) (K.written out.old) (K.written out.new) (K.keeps_back out.new)) result.status }
-    ensures tally { result.status ≡ 0 → IfSome (all_told D.held drives.items) (λ helds. RoseByRun (run_on wish opened helds) (tallied (T.runs tally.old) (T.runs tally.new) (T.entries tally.old) (T.entries tally.new))) }
+    ensures tally { result.status ≡ 0 → IfSome (all_told D.held drives.items)
+        (λ helds. RoseByRun (run_on wish opened helds) (tallied (T.runs tally.old) (T.runs tally.new) (T.entries tally.old) (T.entries tally.new))) }
+    ensures tally_went { IfSome (all_told D.held drives.items)
+        (λ helds. RoseWithin (CameToEnd result.status) (begun_of (run_on wish opened helds))
+        (tallied (T.runs tally.old) (T.runs tally.new) (T.entries tally.old) (T.entries tally.new))) }
+    ensures began { result.status ≢ 7 }
 {
     match wish.pick {
         Pick::Bfs(source) => {
@@ -125,7 +137,14 @@ pub fn run_job<D: Drive, K: Sink, T: Tally>(
     ensures reads { IfSome (all_told D.held drives.old.items) (λ helds. RunReads D.log wish helds drives.old.items drives.new.items) }
     ensures means { result ≡ 0 → IfSome (all_told D.held drives.old.items) (λ helds. MeansWish wish (held_graph helds)) }
     ensures all_read { result ≡ 0 → IfSome (all_told D.held drives.old.items) (λ helds. RunReadsAll D.log wish helds drives.old.items drives.new.items) }
-    ensures tally { result ≡ 0 → IfSome (all_told D.held drives.old.items) (λ helds. RoseByWish wish (held_graph helds) (tallied (T.runs tally.old) (T.runs tally.new) (T.entries tally.old) (T.entries tally.new))) }
+    ensures tally { result ≡ 0 → IfSome (all_told D.held drives.old.items)
+        (λ helds. RoseByWish wish (held_graph helds) (tallied (T.runs tally.old) (T.runs tally.new) (T.entries tally.old) (T.entries tally.new))) }
+    ensures tally_went { IfSome (all_told D.held drives.old.items)
+        (λ helds. RoseWithin (CameToEnd result) (begins_of wish (held_graph helds))
+        (tallied (T.runs tally.old) (T.runs tally.new) (T.entries tally.old) (T.entries tally.new))) }
+    ensures told { result ≡ 7 → OpeningRefused D.told drives.old.items drives.new.items }
+    ensures tally_stands { result ≡ 7 → Stood
+        (tallied (T.runs tally.old) (T.runs tally.new) (T.entries tally.old) (T.entries tally.new)) }
 {
     let opened = match open_sourced(alloc, wish, drives) {
         Ok(opened) => opened,

@@ -2,6 +2,7 @@
 
 ghost use Rattle.std.specs.Prelude.{◌≡◌, ◌+◌, ◌*◌, ◌<◌, ◌≤◌, ◌^◌, All, IfErr, OnOk, Some, length, map};
 ghost use Rattle.fg_index.specs.ImageIndex.{entry_bytes};
+ghost use Rattle.fg_model.specs.Engine.{RoseUpTo};
 ghost use Rattle.fg_model.specs.Program.{IsInRange};
 ghost use Rattle.fg_model.specs.VertexRun.{edges_from, message_along};
 ghost use Rattle.fg_top.specs.Sending.{AreSent, entries_of, first_bad_of};
@@ -35,6 +36,7 @@ pub fn send_along<P: Program, T: Tally>(
     requires fit { All IsInRange states.old }
     requires room { T.entries tally.old + part.count < 2 ^ 64 }
     ensures runs { T.runs tally.new ≡ T.runs tally.old }
+    ensures counted { RoseUpTo part.count (T.entries tally.old) (T.entries tally.new) }
     ensures still_fit { All IsInRange states.new }
     ensures ok { OnOk result (AreSent (P.rules program.now) (length states.old)
         (edges_from sender.v dir part.place (entries_of part page.now))

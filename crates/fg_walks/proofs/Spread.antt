@@ -11,7 +11,7 @@ use Rattle.fg_base.specs.declared.plain.VState.{VState}
 use Rattle.fg_model.specs.declared.graph.Graph.{Graph}
 use Rattle.fg_model.specs.Iteration.{after, folded, mail, own_state, sent_to, state_at, states_after_runs}
 use Rattle.fg_model.specs.Program.{Rules}
-use Rattle.fg_model.specs.VertexRun.{Message}
+use Rattle.fg_model.specs.declared.mail.Mail.{Mail}
 use Rattle.fg_model.proofs.IterationLemmas.{length-folded}
 use Rattle.fg_walks.specs.Bfs.{bfs, level_shown, none}
 use Rattle.fg_walks.specs.Sssp.{sssp}
@@ -29,6 +29,7 @@ spread cost source = record {
   begin = λ phase v s. (record { a = s.a; b = s.a; c = s.c }, s.a);
   edge = λ carry dir entry. min (carry + cost entry) none;
   receive = lowered;
+  combine = λ x y. min x y;
   wake = λ phase s. nat_lt s.a s.b;
   bid = λ s. None;
   show = λ s. level_shown s.a;
@@ -66,24 +67,24 @@ fold_same s [] = refl
 fold_same s (m ∷ ms) = fold_same (lowered s m) ms
 
 -- the mail to one vertex
-kept_up : (R : ℕ → Type 0) (v : ℕ) (message : Message) (is : Bool) (rest : List Message) → (is ≡ true → R message.value) → Each R (map (λ message. message.value) rest) → Each R (map (λ message. message.value) (cond is (message ∷ rest) rest))
+kept_up : (R : ℕ → Type 0) (v : ℕ) (message : Mail) (is : Bool) (rest : List Mail) → (is ≡ true → R message.message) → Each R (map (λ message. message.message) rest) → Each R (map (λ message. message.message) (cond is (message ∷ rest) rest))
 kept_up R v message true rest here each = (here refl, each)
 kept_up R v message false rest here each = each
 
-pub sent_each : (R : ℕ → ℕ → Type 0) (v : ℕ) (messages : List Message) → Each (λ message. R message.target message.value) messages → Each (R v) (sent_to v messages)
+pub sent_each : (R : ℕ → ℕ → Type 0) (v : ℕ) (messages : List Mail) → Each (λ message. R message.target message.message) messages → Each (R v) (sent_to v messages)
 sent_each R v [] each = tt
 sent_each R v (message ∷ messages) each =
     kept_up (R v) v message (message.target == v) (filter (λ message. message.target == v) messages)
-    (λ is. let P : ℕ → Type 0 = λ u. R u message.value in subst P (eqb-true message.target v is) each.0) (sent_each R v messages each.1)
+    (λ is. let P : ℕ → Type 0 = λ u. R u message.message in subst P (eqb-true message.target v is) each.0) (sent_each R v messages each.1)
 
-kept_down : (R : ℕ → Type 0) (v : ℕ) (message : Message) (is : Bool) (rest : List Message) → Each R (map (λ message. message.value) (cond is (message ∷ rest) rest)) → (is ≡ true → R message.value) × Each R (map (λ message. message.value) rest)
+kept_down : (R : ℕ → Type 0) (v : ℕ) (message : Mail) (is : Bool) (rest : List Mail) → Each R (map (λ message. message.message) (cond is (message ∷ rest) rest)) → (is ≡ true → R message.message) × Each R (map (λ message. message.message) rest)
 kept_down R v message true rest each = ((λ is. each.0), each.1)
 kept_down R v message false rest each = ((λ is. absurd (cc)), each)
 
 same_true : (x y : ℕ) → x ≡ y → (x == y) ≡ true
 same_true x y is = eq-eqb x y is
 
-pub each_sent : (R : ℕ → Type 0) (v : ℕ) (messages : List Message) → Each R (sent_to v messages) → Each (λ message. message.target ≡ v → R message.value) messages
+pub each_sent : (R : ℕ → Type 0) (v : ℕ) (messages : List Mail) → Each R (sent_to v messages) → Each (λ message. message.target ≡ v → R message.message) messages
 each_sent R v [] each = tt
 each_sent R v (message ∷ messages) each =
     let parts = kept_down R v message (message.target == v) (filter (λ message. message.target == v) messages) each in
@@ -115,7 +116,7 @@ length-runs : (P : Rules) (phase : ℕ) (states : List VState) → length (state
 unfolding states_after_runs
 length-runs P phase states = length-map (enumerate_from 0 states) (λ (v, s). own_state P phase v s) ∙ length-enumerate_from 0 states
 
-folded_at : (P : Rules) (messages : List Message) (v : ℕ) (states : List VState) → v < length states → state_at (folded P messages states) v ≡ fold P.receive (state_at states v) (sent_to v messages)
+folded_at : (P : Rules) (messages : List Mail) (v : ℕ) (states : List VState) → v < length states → state_at (folded P messages states) v ≡ fold P.receive (state_at states v) (sent_to v messages)
 unfolding folded zero_state
 folded_at P messages v states below =
     let fold_in : ℕ × VState → VState = λ (v, s). fold P.receive s (sent_to v messages) in

@@ -8,9 +8,10 @@ use Rattle.fg_base.specs.declared.plain.Dir.{Dir}
 use Rattle.fg_base.specs.declared.plain.Entry.{Entry}
 use Rattle.fg_base.specs.declared.plain.VState.{VState}
 use Rattle.fg_model.specs.declared.graph.Graph.{Graph}
+use Rattle.fg_model.specs.declared.mail.Mail.{Mail}
 use Rattle.fg_model.specs.Graph.{row}
 use Rattle.fg_model.specs.Iteration.{after, mail, own_state, sent_to, state_at}
-use Rattle.fg_model.specs.VertexRun.{Message, message_along, ran}
+use Rattle.fg_model.specs.VertexRun.{message_along, ran}
 use Rattle.fg_walks.specs.Bfs.{none}
 use Rattle.fg_walks.specs.Walks.{IsWalk}
 use Rattle.fg_walks.proofs.Each.{Each, each-map, each_at, each_mapped, each_of, each_passing, each_weaker, passing_each}
@@ -73,18 +74,18 @@ message_reached cost outs source limit v x entry has low (inr walk) = elim (case
 ]
 
 -- the messages of one vertex
-abbrev pub sends : (Entry → ℕ) → ℕ → Graph → ℕ → List VState → ℕ → List Message
+abbrev pub sends : (Entry → ℕ) → ℕ → Graph → ℕ → List VState → ℕ → List Mail
 sends cost source graph phase states v = (ran (spread cost source) graph phase v (state_at states v)).messages
 
 abbrev pub is_awake : List VState → ℕ → Bool
 is_awake states v = nat_lt (state_at states v).a (state_at states v).b
 
-mail_up : (cost : Entry → ℕ) (graph : Graph) (source phase : ℕ) (states : List VState) (P : Message → Type 0) → ((v : ℕ) → v < length states → is_awake states v ≡ true → Each P (sends cost source graph phase states v))
+mail_up : (cost : Entry → ℕ) (graph : Graph) (source phase : ℕ) (states : List VState) (P : Mail → Type 0) → ((v : ℕ) → v < length states → is_awake states v ≡ true → Each P (sends cost source graph phase states v))
     → Each P (mail (spread cost source) graph phase states)
 unfolding mail
 mail_up cost graph source phase states P of = each_passing P (sends cost source graph phase states) (is_awake states) 0 (length states) (λ v below awake. of v (omega arith) awake)
 
-mail_down : (cost : Entry → ℕ) (graph : Graph) (source phase : ℕ) (states : List VState) (P : Message → Type 0) → Each P (mail (spread cost source) graph phase states)
+mail_down : (cost : Entry → ℕ) (graph : Graph) (source phase : ℕ) (states : List VState) (P : Mail → Type 0) → Each P (mail (spread cost source) graph phase states)
     → (v : ℕ) → v < length states → is_awake states v ≡ true → Each P (sends cost source graph phase states v)
 unfolding mail
 mail_down cost graph source phase states P each v below awake = passing_each P (sends cost source graph phase states) (is_awake states) 0 (length states) v each (omega arith) (omega arith) awake
@@ -109,15 +110,15 @@ falls cost graph source phase v states = elim (cases_lt v (length states)) [
 
 -- every message was heard
 heard : (cost : Entry → ℕ) (graph : Graph) (source phase : ℕ) (states : List VState)
-    → Each (λ message. at (after (spread cost source) graph phase states) message.target ≤ message.value) (mail (spread cost source) graph phase states)
+    → Each (λ message. at (after (spread cost source) graph phase states) message.target ≤ message.message) (mail (spread cost source) graph phase states)
 heard cost graph source phase states =
     let next = after (spread cost source) graph phase states in
     let messages = mail (spread cost source) graph phase states in
-    each_of (λ message. at next message.target ≤ message.value) messages (λ message has. elim (cases_lt message.target (length states)) [
+    each_of (λ message. at next message.target ≤ message.message) messages (λ message has. elim (cases_lt message.target (length states)) [
       | inl below ↦
           let own = own_state (spread cost source) phase message.target (state_at states message.target) in
           let to = each_sent (λ m. (fold lowered own (sent_to message.target messages)).a ≤ m) message.target messages (fold_each own (sent_to message.target messages)) in
-          let low = each_at (λ other. other.target ≡ message.target → (fold lowered own (sent_to message.target messages)).a ≤ other.value) messages message to has refl in
+          let low = each_at (λ other. other.target ≡ message.target → (fold lowered own (sent_to message.target messages)).a ≤ other.message) messages message to has refl in
           omega (arith, low, after_number cost graph source phase message.target states below)
       | inr past ↦ omega (arith, past_number next message.target (omega (arith, length-after (spread cost source) graph phase states)))
     ])
@@ -128,9 +129,9 @@ reached_next : (cost : Entry → ℕ) (graph : Graph) (source number phase v : �
 reached_next cost graph source number phase v states costs is below =
     let messages = mail (spread cost source) graph phase states in
     let Is : ℕ → ℕ → Type 0 = λ w x. Reached cost graph.outs source (number * top + top) w x in
-    let sent : Each (λ message. Is message.target message.value) messages =
-    mail_up cost graph source phase states (λ message. Is message.target message.value) (λ u u_below awake.
-    each-map (λ message. Is message.target message.value) (message_along (spread cost source) (at states u) Dir.Out) (row graph.outs u)
+    let sent : Each (λ message. Is message.target message.message) messages =
+    mail_up cost graph source phase states (λ message. Is message.target message.message) (λ u u_below awake.
+    each-map (λ message. Is message.target message.message) (message_along (spread cost source) (at states u) Dir.Out) (row graph.outs u)
     (each_of (λ entry. Is entry.target (min (at states u + cost entry) none)) (row graph.outs u) (λ entry has.
     message_reached cost graph.outs source (number * top) u (at states u) entry has (costs.low u entry has) (is.reached u (omega (arith, is.counted)))))) in
     let own = own_state (spread cost source) phase v (state_at states v) in
@@ -159,8 +160,8 @@ passed_next cost graph source number phase v states is below =
     let Is : ℕ → Type 0 = λ b. Passed cost graph.outs next v b in
     elim (cases_Bool (is_awake states v)) [
       | inl awake ↦
-          let all = mail_down cost graph source phase states (λ message. at next message.target ≤ message.value) (heard cost graph source phase states) v v_below awake in
-          let along = each_mapped (λ message. at next message.target ≤ message.value) (message_along (spread cost source) (at states v) Dir.Out) (row graph.outs v) all in
+          let all = mail_down cost graph source phase states (λ message. at next message.target ≤ message.message) (heard cost graph source phase states) v v_below awake in
+          let along = each_mapped (λ message. at next message.target ≤ message.message) (message_along (spread cost source) (at states v) Dir.Out) (row graph.outs v) all in
           let low = each_weaker (λ entry. at next entry.target ≤ min (at states v + cost entry) none) (λ entry. at next entry.target ≤ at states v + cost entry) (λ entry h. omega (arith, h)) (row graph.outs v) along in
           subst Is (sym (sent ∙ own_sent cost source phase v (state_at states v) awake)) (inr low)
       | inr asleep ↦

@@ -21,6 +21,7 @@ bfs source = record {
   begin = λ phase v s. (record { a = s.a; b = s.a; c = s.c }, s.a);
   edge = λ carry dir entry. min (carry + 1) none;
   receive = λ s m. record { a = min s.a m; b = s.b; c = s.c };
+  combine = λ x y. min x y;
   wake = λ phase s. nat_lt s.a s.b;
   bid = λ s. None;
   show = λ s. level_shown s.a;

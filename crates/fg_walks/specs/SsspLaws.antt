@@ -4,18 +4,20 @@ use Rattle.std.specs.Prelude.{◌==◌}
 use Rattle.fg_base.specs.declared.plain.VState.{VState}
 use Rattle.fg_model.specs.Program.{IsLawful}
 use Rattle.fg_walks.specs.Bfs.{none}
-use Rattle.fg_walks.specs.BfsLaws.{min-swap, opening-fits, shown-fits}
+use Rattle.fg_walks.specs.BfsLaws.{min-join, min-swap, opening-fits, shown-fits}
 use Rattle.fg_walks.specs.Sssp.{sssp}
 
 pub sssp_is_lawful : (source : ℕ) → IsLawful (sssp source)
 unfolding sssp
 sssp_is_lawful source = record {
   order = λ s x y s_fits x_fits y_fits. ap (λ (a : ℕ). let t : VState = record { a = a; b = s.b; c = s.c } in t) (min-swap s.a x y);
+  joins = λ s x y s_fits x_fits y_fits. ap (λ (a : ℕ). let t : VState = record { a = a; b = s.b; c = s.c } in t) (min-join s.a x y);
   init_fits = λ v outs ins v_fits outs_fits ins_fits. record { a_fits = opening-fits (v == source); b_fits = lit< tt; c_fits = lit< tt };
   begin_fits = λ phase v s phase_fits v_fits s_fits awake. record { a_fits = s_fits.a_fits; b_fits = s_fits.a_fits; c_fits = s_fits.c_fits };
   carry_fits = λ phase v s phase_fits v_fits s_fits awake. s_fits.a_fits;
   edge_fits = λ carry dir entry carry_fits target_fits weight_fits. omega arith;
   receive_fits = λ s m s_fits m_fits. record { a_fits = omega arith; b_fits = s_fits.b_fits; c_fits = s_fits.c_fits };
+  combine_fits = λ x y x_fits y_fits. omega arith;
   bid_fits = λ s s_fits. tt;
   show_fits = λ s s_fits. shown-fits (s.a == none) s.a s_fits.a_fits;
 }

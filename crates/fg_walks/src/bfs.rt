@@ -47,6 +47,10 @@ impl Program for Bfs {
         VState { a: s.a.min(m), ..s }
     }
 
+    fn combine(&self, x: u64, y: u64) -> u64 {
+        x.min(y)
+    }
+
     fn wake(&self, _phase: u64, s: VState) -> bool {
         s.a < s.b
     }

@@ -1,4 +1,4 @@
-use Rattle.std.proofs.Common.{[], true, false, IfSome, Some, Ok, Result, map, length, string_bytes, subst, sym}
+use Rattle.std.proofs.Common.{◌≡◌, [], true, false, rules, IfSome, Some, Ok, Result, map, length, string_bytes, subst, sym}
 use Rattle.fg_base.specs.declared.refusal.Refusal.{Refusal}
 use Rattle.fg_base.specs.declared.refusal.WordFault.{WordFault}
 use Rattle.fg_outside.specs.Drives.{LogsGrew, all_told}
@@ -9,13 +9,15 @@ use Rattle.fg_top.specs.BuildOutcome.{input_over}
 use Rattle.fg_top.specs.Ends.{EndsLeaving, IsWritten, LeavesHeld, output_between}
 use Rattle.fg_top.specs.JobLeaves.{DoneBy, LeavesAt}
 use Rattle.fg_top.specs.JobOutcome.{JobComesTo}
-use Rattle.fg_top.specs.Jobs.{AreDrives, HasDrives, JobFits}
-use Rattle.fg_top.specs.LargeOutcome.{LargeComesTo, recipe_for}
+use Rattle.fg_top.specs.Jobs.{AreDrives, HasDrives, JobFits, is_still}
+use Rattle.fg_top.specs.LargeOutcome.{LargeComesTo, generated_graph, recipe_for}
 use Rattle.fg_top.specs.Outcome.{wish_for}
 use Rattle.fg_top.specs.Reads.{ReadsAllBy}
+use Rattle.fg_top.specs.Tallies.{CameToEnd, RoseWithin, StandsBy, begins_by, begins_of, tallied}
 use Rattle.fg_top.specs.Words.{job_of}
 use Rattle.fg_top.proofs.EndLemmas.{ends_in_memory}
-use Rattle.fg_top.proofs.FlashLemmas.{always, counts_nothing, drives_fit, ends_given, ends_unread, generates_nothing, held_same, keeps_nothing, leaves_nothing, reads_nothing, takes_nothing}
+use Rattle.fg_top.proofs.FlashLemmas.{always, counts_nothing, drives_fit, ends_given, ends_unread, generates_nothing, held_same, keeps_nothing, leaves_nothing, logs_nothing, reads_nothing, stops_nothing, takes_nothing, words_not_told}
+use Rattle.fg_top.proofs.TallyLemmas.{stands_still, went_still, went_unread}
 use Rattle.fg_top.proofs.WordJobs.{accepted_fits}
 use Rattle.fg_top.proofs.flash.Goals as goal
 
@@ -158,3 +160,80 @@ large_job-requires-clause-some_unit g c = (subst JobFits c.in-Large.is (accepted
 
 pub large_job-requires-clause-small_unit : goal.large_job-requires-clause-small_unit
 large_job-requires-clause-small_unit g c = (subst JobFits c.in-Large.is (accepted_fits (map string_bytes c.args.words.now.items) c.in-Ok.job c.in-Ok.ensures.job)).0.1
+
+pub returns-in-Err-clause-logs : goal.returns-in-Err-clause-logs
+returns-in-Err-clause-logs g c = logs_nothing g.D.Drive.log (job_of (map string_bytes c.args.words.now.items)) c.args.drives.now.items
+
+pub returns-in-Large-clause-logs : goal.returns-in-Large-clause-logs
+returns-in-Large-clause-logs g c = logs_nothing g.D.Drive.log (job_of (map string_bytes c.args.words.now.items)) c.args.drives.now.items
+
+pub returns-in-Err-clause-stops : goal.returns-in-Err-clause-stops
+returns-in-Err-clause-stops g c =
+    let left = g.S.Source.left c.args.input.now in
+    let faults = g.S.Source.faults c.args.input.now in
+    λ six. stops_nothing (map string_bytes c.args.words.now.items) c.in-Err.fault left left faults faults c.in-Err.ensures.job c.in-Err.ensures.takes_no_memory
+
+pub returns-in-Err-clause-tally_went : goal.returns-in-Err-clause-tally_went
+returns-in-Err-clause-tally_went g c =
+    went_unread (map string_bytes c.args.words.now.items) c.in-Err.fault (all_told g.D.Drive.held c.args.drives.now.items) (CameToEnd c.refuse.result)
+    (g.T.Tally.runs c.args.tally.now) (g.T.Tally.entries c.args.tally.now) c.in-Err.ensures.job c.in-Err.ensures.takes_no_memory
+
+pub returns-in-Err-clause-tally_stands : goal.returns-in-Err-clause-tally_stands
+returns-in-Err-clause-tally_stands g c =
+    stands_still (job_of (map string_bytes c.args.words.now.items)) c.refuse.result (g.T.Tally.runs c.args.tally.now) (g.T.Tally.entries c.args.tally.now)
+
+pub returns-then-is_still-clause-tally_went : goal.returns-then-is_still-clause-tally_went
+returns-then-is_still-clause-tally_went g c =
+    let told = all_told g.D.Drive.held c.args.drives.now.items in
+    let now = c.args.tally.now in
+    let P : Result Job WordFault → Type 0 = λ given. IfSome told (λ helds. RoseWithin (CameToEnd c.still.result) (begins_by given helds)
+    (tallied (g.T.Tally.runs now) (g.T.Tally.runs now) (g.T.Tally.entries now) (g.T.Tally.entries now))) in
+    let still : is_still c.in-Ok.job ≡ true = search rules in
+    subst P (sym c.in-Ok.ensures.job) (went_still c.in-Ok.job told (CameToEnd c.still.result) (g.T.Tally.runs now) (g.T.Tally.entries now) still)
+
+pub returns-then-is_still-clause-tally_stands : goal.returns-then-is_still-clause-tally_stands
+returns-then-is_still-clause-tally_stands g c =
+    stands_still (job_of (map string_bytes c.args.words.now.items)) c.still.result (g.T.Tally.runs c.args.tally.now) (g.T.Tally.entries c.args.tally.now)
+
+pub returns-in-Run-clause-tally_went : goal.returns-in-Run-clause-tally_went
+returns-in-Run-clause-tally_went g c =
+    let told = all_told g.D.Drive.held c.args.drives.now.items in
+    let now = c.args.tally.now in
+    let new = c.run_job.new.tally in
+    let P : Result Job WordFault → Type 0 = λ given. IfSome told (λ helds. RoseWithin (CameToEnd c.run_job.result) (begins_by given helds)
+    (tallied (g.T.Tally.runs now) (g.T.Tally.runs new) (g.T.Tally.entries now) (g.T.Tally.entries new))) in
+    let Q : Job → Type 0 = λ job. P (Ok job) in
+    subst P (sym c.in-Ok.ensures.job) (subst Q (sym c.in-Run.is) c.run_job.ensures.tally_went)
+
+pub returns-in-Run-clause-tally_stands : goal.returns-in-Run-clause-tally_stands
+returns-in-Run-clause-tally_stands g c =
+    let now = c.args.tally.now in
+    let new = c.run_job.new.tally in
+    let P : Result Job WordFault → Type 0 = λ given. StandsBy given c.run_job.result (tallied (g.T.Tally.runs now) (g.T.Tally.runs new) (g.T.Tally.entries now) (g.T.Tally.entries new)) in
+    let Q : Job → Type 0 = λ job. P (Ok job) in
+    subst P (sym c.in-Ok.ensures.job) (subst Q (sym c.in-Run.is) c.run_job.ensures.tally_stands)
+
+pub returns-in-Large-clause-tally_went : goal.returns-in-Large-clause-tally_went
+returns-in-Large-clause-tally_went g c =
+    let told = all_told g.D.Drive.held c.args.drives.now.items in
+    let now = c.args.tally.now in
+    let new = c.large_job.new.tally in
+    let large = c.in-Large in
+    let tally = tallied (g.T.Tally.runs now) (g.T.Tally.runs new) (g.T.Tally.entries now) (g.T.Tally.entries new) in
+    let P : Result Job WordFault → Type 0 = λ given. IfSome told (λ helds. RoseWithin (CameToEnd c.large_job.result) (begins_by given helds) tally) in
+    let Q : Job → Type 0 = λ job. P (Ok job) in
+    let all = begins_of (wish_for large.pick large.max false true) (generated_graph (recipe_for large.start large.nodes large.edges large.undirected)) in
+    subst P (sym c.in-Ok.ensures.job) (subst Q (sym large.is) (always told (RoseWithin (CameToEnd c.large_job.result) all tally) c.large_job.ensures.tally_went))
+
+pub returns-in-Large-clause-tally_stands : goal.returns-in-Large-clause-tally_stands
+returns-in-Large-clause-tally_stands g c =
+    let now = c.args.tally.now in
+    let new = c.large_job.new.tally in
+    let P : Result Job WordFault → Type 0 = λ given. StandsBy given c.large_job.result (tallied (g.T.Tally.runs now) (g.T.Tally.runs new) (g.T.Tally.entries now) (g.T.Tally.entries new)) in
+    let Q : Job → Type 0 = λ job. P (Ok job) in
+    subst P (sym c.in-Ok.ensures.job) (subst Q (sym c.in-Large.is) c.large_job.ensures.tally_stands)
+
+pub returns-in-Err-clause-told : goal.returns-in-Err-clause-told
+returns-in-Err-clause-told g c =
+    let olds = c.args.drives.now.items in
+    λ seven. words_not_told g.D.Drive.told (map string_bytes c.args.words.now.items) c.in-Err.fault olds olds c.in-Err.ensures.job c.in-Err.ensures.takes_no_memory

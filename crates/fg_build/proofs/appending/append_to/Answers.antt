@@ -2,6 +2,7 @@ use Rattle.std.proofs.Common.{◌≡◌, ◌∙◌, ◌/◌, ℕ, ap, subst, sym
 use Rattle.fg_build.proofs.AppendLaws.{appended_one, begun_one, kept_one}
 use Rattle.fg_outside.specs.Pages.{HasRoom, lessened, page_count}
 use Rattle.fg_outside.proofs.DriveLemmas.{EachSame-set}
+use Rattle.fg_build.proofs.OrderLaws.{HoldAfter-one, StopsAmong-one}
 use Rattle.fg_build.proofs.appending.append_to.Goals as goal
 
 pub returns-in_default-clause-appends : goal.returns-in_default-clause-appends
@@ -31,3 +32,11 @@ returns-clause-sure g c =
 
 pub returns-clause-log : goal.returns-clause-log
 returns-clause-log g c = EachSame-set g.D.Drive.log c.args.drives.now c.args.drive c.index-drives-drive.result c.append.new.self c.requires.drive c.append.ensures.log
+
+pub returns-in_default-clause-in_order : goal.returns-in_default-clause-in_order
+returns-in_default-clause-in_order g c =
+    StopsAmong-one g.D.Drive.held c.args.drives.now c.args.drive c.args.page.now c.index-drives-drive.result c.append.new.self c.requires.drive c.in_default.ensures.held_err
+
+pub returns-clause-in_order : goal.returns-clause-in_order
+returns-clause-in_order g c =
+    HoldAfter-one g.D.Drive.held c.args.drives.now c.args.drive c.args.page.now c.index-drives-drive.result c.append.new.self c.requires.drive c.in-Ok.ensures.held

@@ -1,6 +1,8 @@
 -- The drives are counted one by one, up to the first that isn't empty.
-use Rattle.std.proofs.Common.{refl, arith}
+use Rattle.std.proofs.Common.{◌≡◌, ℕ, length, refl, subst, arith}
 use Rattle.fg_build.proofs.CallLaws.{IfSome-always, Keeps-more, Keeps-none}
+use Rattle.fg_build.specs.PagesTold.{ToldNone}
+use Rattle.fg_build.proofs.ToldLaws.{ToldNone-begin, ToldNone-ends, ToldNone-fails, ToldNone-more}
 use Rattle.fg_build.proofs.EmptyLaws.{look_ends, look_more, look_stops}
 use Rattle.fg_outside.specs.Drives.{all_told}
 use Rattle.fg_outside.proofs.DriveLemmas.{EachDrive-same, EachSame-more, RoseFirst-after}
@@ -12,6 +14,7 @@ loop-drive-init g c = record {
   counts = EachDrive-same _ (λ drive. refl) c.args.drives.now;
   log = EachDrive-same _ (λ drive. refl) c.args.drives.now;
   says = IfSome-always (all_told g.D.Drive.held c.args.drives.now) _ (λ helds. tt);
+  told = ToldNone-begin g.D.Drive.told c.args.drives.now;
 }
 
 pub returns-in_default-clause-says : goal.returns-in_default-clause-says
@@ -58,7 +61,24 @@ loop-drive-preserved g c =
       says =
           look_more g.D.Drive.held c.args.drives.now c.loop-drive.drives c.loop-drive.drive c.in-Ok.pages so_far.keeps.same_held (omega (arith, c.loop-drive-test.true)) so_far.says
           c.in-Ok.ensures.count c.if-pages-ne0.false;
+      told = ToldNone-more g.D.Drive.told c.loop-drive.drive c.in-Ok.pages _ c.loop-drive.drives _ so_far.told c.in-Ok.ensures.told c.if-pages-ne0.false;
     }
+
+pub returns-in_default-clause-told : goal.returns-in_default-clause-told
+returns-in_default-clause-told g c =
+    ToldNone-fails g.D.Drive.told c.loop-drive.drive _ c.loop-drive.drives _ c.loop-drive.invariant.told c.in_default.ensures.told_err
+
+pub returns-then-pages-ne0-clause-told : goal.returns-then-pages-ne0-clause-told
+returns-then-pages-ne0-clause-told g c = (
+  omega (arith, c.loop-drive-test.true),
+  ToldNone-ends g.D.Drive.told c.loop-drive.drive c.in-Ok.pages _ c.loop-drive.drives _ c.loop-drive.invariant.told c.in-Ok.ensures.told c.if-pages-ne0.true,
+)
+
+pub returns-clause-told : goal.returns-clause-told
+returns-clause-told g c =
+    let all : c.loop-drive.drive ≡ length c.args.drives.now = omega (arith, c.loop-drive-test.false) in
+    let P : ℕ → Type 0 = λ count. ToldNone g.D.Drive.told count c.args.drives.now c.loop-drive.drives in
+    subst P all c.loop-drive.invariant.told
 
 pub returns-clause-says : goal.returns-clause-says
 returns-clause-says g c = look_ends g.D.Drive.held c.args.drives.now c.loop-drive.drive (omega (arith, c.loop-drive-test.false)) c.loop-drive.invariant.says

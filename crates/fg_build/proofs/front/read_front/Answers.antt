@@ -2,6 +2,7 @@ use Rattle.fg_build.proofs.CallLaws.{content_behind}
 use Rattle.fg_build.proofs.FrontLaws.{front_found, header_at-content, header_refused, sections_of-content, sections_pages, sections_refused}
 use Rattle.fg_outside.specs.Drives.{all_told}
 use Rattle.fg_stripe.specs.Held.{page_on}
+use Rattle.fg_build.proofs.FrontLaws.{header_at-behind, outside-behind, sections_of-behind}
 use Rattle.fg_build.proofs.front.read_front.Goals as goal
 
 pub returns-in-Err-read-clause-answer : goal.returns-in-Err-read-clause-answer
@@ -36,3 +37,13 @@ pub returns-in-Err-sections-clause-reads : goal.returns-in-Err-sections-clause-r
 returns-in-Err-sections-clause-reads g c =
     content_behind g.D.Drive.faults g.D.Drive.log _ c.in-Err-sections.refusal _ _
     (sections_of-content c.in-Ok.header c.args.striping.now.pages _ c.in-Err-sections.ensures.value) c.in_default.ensures.reads
+
+pub returns-in-Err-clause-behind : goal.returns-in-Err-clause-behind
+returns-in-Err-clause-behind g c = outside-behind c.in-Err.refusal c.in-Err.ensures.fault
+
+pub returns-in-Err-read-clause-behind : goal.returns-in-Err-read-clause-behind
+returns-in-Err-read-clause-behind g c = header_at-behind c.read_image_page.new.into c.in-Err-read.refusal c.in-Err-read.ensures.value
+
+pub returns-in-Err-sections-clause-behind : goal.returns-in-Err-sections-clause-behind
+returns-in-Err-sections-clause-behind g c =
+    sections_of-behind c.in-Ok.header c.args.striping.now.pages c.in-Err-sections.refusal c.in-Err-sections.ensures.value

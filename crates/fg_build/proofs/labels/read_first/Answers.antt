@@ -1,4 +1,4 @@
-use Rattle.std.proofs.Common.{◌≡◌, ◌∙◌, ◌≤◌, ℕ, ap, None, Some, Err, [], slice_index_or, sym, arith, length}
+use Rattle.std.proofs.Common.{◌≡◌, ◌∙◌, ◌≤◌, ℕ, refl, ap, None, Some, Err, [], slice_index_or, sym, arith, length}
 use Rattle.fg_build.specs.Labels.{label_on, need_of, refusal_by}
 use Rattle.fg_build.specs.Opening.{opening_of}
 use Rattle.fg_build.proofs.CallLaws.{IfSome-both, MatchOpening-content, SaysOf-weaker}
@@ -6,6 +6,8 @@ use Rattle.fg_build.proofs.RefusalLaws.{first_none, first_refused, first_some, j
 use Rattle.fg_outside.specs.Drives.{all_told}
 use Rattle.fg_outside.proofs.DriveLemmas.{all_told-length}
 use Rattle.fg_base.specs.declared.refusal.Refusal.TheVariants.{NoLabel}
+use Rattle.fg_stripe.specs.declared.label.Label.{Label}
+use Rattle.fg_build.proofs.ToldLaws.{IsRefusedAt-first, IsUnlabelled-of, ToldHere-none, ToldHere-some, first_told}
 use Rattle.fg_build.proofs.labels.read_first.Goals as goal
 
 pub returns-in-Err-clause-answer : goal.returns-in-Err-clause-answer
@@ -50,3 +52,22 @@ returns-clause-told g c =
     told_enough g.D.Drive.told 0 found.pages (need_of 0 found.label) c.args.drives.now c.read_label.new.drives
     (passed_need count found.label 0 found.pages found.label (passed_drives count found.label 0 found.pages found.label by) by)
     c.in-Ok.ensures.told
+
+pub returns-in-Err-clause-told_err : goal.returns-in-Err-clause-told_err
+returns-in-Err-clause-told_err g c =
+    let refusal = c.in-Err.refusal in
+    let unlabelled = c.in-Err.ensures.told_err in
+    let any : Label = record { drive = 0; drives = length c.args.drives.now; unit = 1; pages = 2; number = 0 } in (
+      IsUnlabelled-of 0 refusal unlabelled.0,
+      IsRefusedAt-first g.D.Drive.told any refusal _ _ refl (omega (arith, c.requires.some)) (ToldHere-none g.D.Drive.told any 0 refusal _ _ unlabelled.0 unlabelled.1),
+    )
+
+pub returns-in-Some-clause-told_err : goal.returns-in-Some-clause-told_err
+returns-in-Some-clause-told_err g c =
+    let found = c.in-Ok.found in
+    let refusal = c.in-Some.refusal in
+    let refused = first_told (length c.args.drives.now) found.label 0 found.pages found.label refusal c.in-Ok.ensures.some (sym c.refusal_by.ensures ∙ c.in-Some.is) in
+    let own = refused.1.0 in (
+      refused.0,
+      IsRefusedAt-first g.D.Drive.told own refusal _ _ refused.1.1 (omega (arith, c.requires.some)) (ToldHere-some g.D.Drive.told own 0 found.pages refusal _ _ refused.1.2 c.in-Ok.ensures.told),
+    )

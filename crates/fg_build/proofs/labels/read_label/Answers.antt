@@ -5,6 +5,7 @@ use Rattle.fg_build.specs.OpeningReads.{alone}
 use Rattle.fg_build.proofs.CallLaws.{IfSome-both, Keeps-more, failed_before, none_read, content_behind, ReadUntil-more, ReadUntil-before, AllRead-more}
 use Rattle.fg_build.proofs.LabelLaws.{label_fits, label_on-told, told_here, told_then}
 use Rattle.fg_outside.specs.Drives.{all_told}
+use Rattle.fg_build.proofs.ToldLaws.{EachSame-alone, ToldAlone-then, ToldBy-alone}
 use Rattle.fg_build.proofs.labels.read_label.Goals as goal
 
 pub returns-in_default-clause-reads : goal.returns-in_default-clause-reads
@@ -81,3 +82,21 @@ returns-clause-reads g c =
     AllRead-more g.D.Drive.faults g.D.Drive.log [] (alone c.args.drive 0 ∷ []) _ c.count_pages.new.drives _
     (none_read g.D.Drive.faults g.D.Drive.log _ _ c.in-Ok.ensures.none_rose c.count_pages.ensures.log)
     (record { counts = c.in-Ok-read_page.ensures.none_rose; logs = c.in-Ok-read_page.ensures.log })
+
+pub returns-in_default-clause-told_err : goal.returns-in_default-clause-told_err
+returns-in_default-clause-told_err g c = (refl, EachSame-alone g.D.Drive.told c.args.drive _ _ c.in_default.ensures.told_err)
+
+pub returns-then-pages-eq0-clause-told_err : goal.returns-then-pages-eq0-clause-told_err
+returns-then-pages-eq0-clause-told_err g c = (refl, ToldBy-alone g.D.Drive.told c.args.drive _ _ _ c.in-Ok.ensures.told)
+
+pub returns-in_default-read_page-clause-told_err : goal.returns-in_default-read_page-clause-told_err
+returns-in_default-read_page-clause-told_err g c = (
+  refl,
+  ToldAlone-then g.D.Drive.told c.args.drive _ c.count_pages.new.drives _ (ToldBy-alone g.D.Drive.told c.args.drive _ _ _ c.in-Ok.ensures.told) c.read_page.ensures.same_told,
+)
+
+pub returns-in_default-read-clause-told_err : goal.returns-in_default-read-clause-told_err
+returns-in_default-read-clause-told_err g c = (
+  refl,
+  ToldAlone-then g.D.Drive.told c.args.drive _ c.count_pages.new.drives _ (ToldBy-alone g.D.Drive.told c.args.drive _ _ _ c.in-Ok.ensures.told) c.read_page.ensures.same_told,
+)

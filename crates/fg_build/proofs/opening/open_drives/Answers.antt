@@ -18,6 +18,7 @@ use Rattle.fg_outside.specs.Drives.{all_told}
 use Rattle.fg_outside.proofs.DriveLemmas.{EachSame-more}
 use Rattle.fg_stripe.specs.declared.layout.Layout.{Layout}
 use Rattle.fg_stripe.specs.Held.{page_on}
+use Rattle.fg_build.proofs.ToldLaws.{RefusedTold-behind}
 use Rattle.fg_build.proofs.opening.open_drives.Goals as goal
 
 pub returns-in-Err-clause-reads : goal.returns-in-Err-clause-reads
@@ -175,3 +176,14 @@ returns-in-Err-read_index-clause-reads g c =
     let I : Layout → Type 0 = λ striping. ReadUntil g.D.Drive.faults g.D.Drive.log (page_reads striping.drives striping.unit front.0.index_first (pages_for front.0.index_bytes)) refusal c.read_front.new.drives c.read_index.new.drives in
     reads_of_index held g.D.Drive.faults g.D.Drive.log olds c.read_index.new.drives label was front.0 front.1 found refusal
     (ReadUntil-more g.D.Drive.faults g.D.Drive.log _ _ refusal olds c.read_front.new.drives c.read_index.new.drives front_read (subst I is_striped c.in-Err-read_index.ensures.reads))
+
+pub returns-in-Err-read_front-clause-told_err : goal.returns-in-Err-read_front-clause-told_err
+returns-in-Err-read_front-clause-told_err g c =
+    RefusedTold-behind g.D.Drive.told c.in-Ok.label c.in-Err-read_front.refusal c.args.drives.now c.read_front.new.drives c.in-Err-read_front.ensures.behind
+    (HoldWhole-same g.D.Drive.told (striping_of c.in-Ok.label) c.read_labels.new.drives c.read_front.new.drives c.read_front.ensures.same_told c.in-Ok.ensures.told)
+
+pub returns-in-Err-read_index-clause-told_err : goal.returns-in-Err-read_index-clause-told_err
+returns-in-Err-read_index-clause-told_err g c =
+    RefusedTold-behind g.D.Drive.told c.in-Ok.label c.in-Err-read_index.refusal c.args.drives.now c.read_index.new.drives c.in-Err-read_index.ensures.behind
+    (HoldWhole-same g.D.Drive.told (striping_of c.in-Ok.label) c.read_labels.new.drives c.read_index.new.drives
+    (EachSame-more g.D.Drive.told _ c.read_front.new.drives _ c.read_front.ensures.same_told c.read_index.ensures.same_told) c.in-Ok.ensures.told)

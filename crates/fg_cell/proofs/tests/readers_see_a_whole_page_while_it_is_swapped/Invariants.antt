@@ -1,6 +1,6 @@
-use Rattle.std.proofs.Common.{[], ◌∷◌}
+use Rattle.std.proofs.Common.{Some, [], ◌∷◌}
 use Rattle.fg_cell.proofs.tests.readers_see_a_whole_page_while_it_is_swapped.Given as goal
 
 -- the two pages at hand
 abbrev pub ghosts-image_of : goal.ghosts-image_of
-ghosts-image_of g a = record { pages = a._first.now.bytes ∷ a._second.now.bytes ∷ [] }
+ghosts-image_of g a = record { pages = Some (a._first.now.bytes ∷ a._second.now.bytes ∷ []) }

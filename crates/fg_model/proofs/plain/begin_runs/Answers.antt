@@ -2,7 +2,7 @@ use Rattle.std.proofs.Common.{◌≡◌, ℕ, ◌+◌, ◌-◌, true, false, Lis
 use Rattle.fg_base.specs.declared.plain.VState.{VState}
 use Rattle.fg_model.specs.declared.plain.Active.{Active}
 use Rattle.fg_model.specs.Iteration.{state_at}
-use Rattle.fg_model.proofs.PlainLemmas.{active-asleep, active-awake, active-end, active_all, active_from, runs-asleep, runs-awake, runs-end, runs_all, runs_from}
+use Rattle.fg_model.proofs.PlainLemmas.{awake_counted, active-asleep, active-awake, active-end, active_all, active_from, runs-asleep, runs-awake, runs-end, runs_all, runs_from}
 use Rattle.fg_model.proofs.plain.begin_runs.Goals as goal
 
 pub loop-v-init : goal.loop-v-init
@@ -67,5 +67,42 @@ returns g c =
       states = sym (runs-end P c.args.phase c.loop-v.v states c.loop-v.next.items c.loop-v-test.false) ∙ inv.rest_next;
       active = sym (active-end P c.args.phase c.loop-v.v (length states - c.loop-v.v) states c.loop-v.active.items (omega (arith, c.loop-v-test.false))) ∙ inv.rest_active;
       runs = inv.more_runs;
+      few_runs = record {
+        at_least = omega (arith, inv.more_runs);
+        at_most = omega (
+          arith,
+          inv.more_runs,
+          c.loop-v.active.ok.0,
+          ap (λ (xs : List Active). length xs) (sym (active-end P c.args.phase c.loop-v.v (length states - c.loop-v.v) states c.loop-v.active.items (omega (arith, c.loop-v-test.false))) ∙ inv.rest_active),
+        );
+      };
       entries = inv.one_entries;
+    }
+
+pub returns-in_err-push-2-clause-few_runs : goal.returns-in_err-push-2-clause-few_runs
+returns-in_err-push-2-clause-few_runs g c =
+    let P = g.P.Program.rules c.args.program.now in
+    let states = c.args.states.now in
+    let phase = c.args.phase in
+    let v = c.loop-v.v in
+    let inv = c.loop-v.invariant in
+    let awake : P.wake phase (state_at states v) ≡ true = cc (c.if-not-wake.false, c.wake.ensures) in
+    let one_more = awake_counted P phase v states c.loop-v.active.items c.loop-v-test.true awake inv.rest_active in
+    record {
+      at_least = omega (arith, c.begin_one.ensures.runs, inv.more_runs);
+      at_most = omega (arith, c.begin_one.ensures.runs, inv.more_runs, c.loop-v.active.ok.0, one_more);
+    }
+
+pub returns-in_err-push-3-clause-few_runs : goal.returns-in_err-push-3-clause-few_runs
+returns-in_err-push-3-clause-few_runs g c =
+    let P = g.P.Program.rules c.args.program.now in
+    let states = c.args.states.now in
+    let phase = c.args.phase in
+    let v = c.loop-v.v in
+    let inv = c.loop-v.invariant in
+    let awake : P.wake phase (state_at states v) ≡ true = cc (c.if-not-wake.false, c.wake.ensures) in
+    let one_more = awake_counted P phase v states c.loop-v.active.items c.loop-v-test.true awake inv.rest_active in
+    record {
+      at_least = omega (arith, c.begin_one.ensures.runs, inv.more_runs);
+      at_most = omega (arith, c.begin_one.ensures.runs, inv.more_runs, c.loop-v.active.ok.0, one_more);
     }

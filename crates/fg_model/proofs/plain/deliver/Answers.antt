@@ -59,8 +59,16 @@ returns g c =
     record {
       runs = inv.one_runs;
       ok_sound = sym inv.rest_bad ∙ over_none graph.n need graph active i done;
+      few_entries = record { at_least = omega (arith, inv.rest_entries, inv.rest_count); at_most = omega (arith, inv.rest_entries) };
       ok_states = sym (over_all P need graph active i c.loop-from.states done) ∙ inv.rest_folded;
       ok_count = omega (arith, none, inv.rest_count);
       ok_entries = omega (arith, none, inv.rest_entries);
       err = tt;
     }
+
+pub returns-in_err-messages-clause-few_entries : goal.returns-in_err-messages-clause-few_entries
+returns-in_err-messages-clause-few_entries g c =
+    let inv = c.loop-from.invariant in
+    let few = c.in_err-messages.ensures.few_entries in
+    let more = length-over-more c.args.need c.args.graph.now c.args.active.now c.loop-from.from-index c.loop-from-test.true in
+    record { at_least = omega (arith, few.at_least, inv.rest_entries, inv.rest_count); at_most = omega (arith, few.at_most, more, inv.rest_entries) }

@@ -4,7 +4,7 @@ use Rattle.std.proofs.lemmas.Result.{err_from_is_err_and}
 use Rattle.fg_base.specs.declared.plain.BadEdge.{BadEdge}
 use Rattle.fg_base.specs.declared.plain.VState.{VState}
 use Rattle.fg_model.specs.declared.plain.Active.{Active}
-use Rattle.fg_model.specs.Iteration.{AreStates, folded, is_bad, mail, needed, states_after_runs}
+use Rattle.fg_model.specs.Iteration.{AreStates, begun_at, folded, is_bad, mail, needed, states_after_runs}
 use Rattle.fg_model.specs.Plain.{all_active, edges_over}
 use Rattle.fg_model.proofs.PlainLemmas.{All-active_below, after_are_states, edges_are_needed, few_active, few_needed, length-active, length-runs, after_is, plain_bad, plain_folded, written, plain_iteration}
 use Rattle.fg_model.proofs.plain.iterate_in_memory.Goals as goal
@@ -88,3 +88,63 @@ returns-clause-ok_messages g c =
     let are_needed : edges_over c.need-need.result graph c.as_slice.result.now ≡ needed P graph c.args.phase c.args.states.now =
     cc (is_active, c.need-need.ensures, edges_are_needed P graph c.args.phase c.args.states.now) in
     omega (arith, c.in_ok-messages.ensures.ok_count, ap (λ (xs : List BadEdge). length xs) are_needed, few_needed P graph c.args.phase c.args.states.now c.requires.within c.requires.are_states.state_count)
+
+pub returns-in_err-next-clause-few_runs : goal.returns-in_err-next-clause-few_runs
+unfolding begun_at
+returns-in_err-next-clause-few_runs g c =
+    let P = g.P.Program.rules c.args.program.now in
+    let graph = c.args.graph.now in
+    let phase = c.args.phase in
+    let states = c.args.states.now in
+    let few = c.in_err-next.ensures.few_runs in
+    record { at_least = omega (arith, few.at_least); at_most = omega (arith, few.at_most, length-active P phase states) }
+
+pub returns-in_err-messages-clause-few_runs : goal.returns-in_err-messages-clause-few_runs
+unfolding begun_at
+returns-in_err-messages-clause-few_runs g c =
+    let P = g.P.Program.rules c.args.program.now in
+    let graph = c.args.graph.now in
+    let phase = c.args.phase in
+    let states = c.args.states.now in
+    let few = c.in_ok-next.ensures.few_runs in
+    record { at_least = omega (arith, few.at_least, c.in_err-messages.ensures.runs); at_most = omega (arith, few.at_most, c.in_err-messages.ensures.runs, length-active P phase states) }
+
+pub returns-clause-few_runs : goal.returns-clause-few_runs
+unfolding begun_at
+returns-clause-few_runs g c =
+    let P = g.P.Program.rules c.args.program.now in
+    let graph = c.args.graph.now in
+    let phase = c.args.phase in
+    let states = c.args.states.now in
+    let few = c.in_ok-next.ensures.few_runs in
+    record { at_least = omega (arith, few.at_least, c.in_ok-messages.ensures.runs); at_most = omega (arith, few.at_most, c.in_ok-messages.ensures.runs, length-active P phase states) }
+
+pub returns-in_err-messages-clause-few_entries : goal.returns-in_err-messages-clause-few_entries
+unfolding begun_at
+returns-in_err-messages-clause-few_entries g c =
+    let P = g.P.Program.rules c.args.program.now in
+    let graph = c.args.graph.now in
+    let phase = c.args.phase in
+    let states = c.args.states.now in
+    let is_active : c.as_slice.result.now ≡ all_active P phase states = c.as_slice.ensures.value ∙ c.in_ok-next.ensures.active in
+    let are_needed : edges_over c.need-need.result graph c.as_slice.result.now ≡ needed P graph phase states = cc (is_active, c.need-need.ensures, edges_are_needed P graph phase states) in
+    let few = c.in_err-messages.ensures.few_entries in
+    record {
+      at_least = omega (arith, few.at_least, c.in_ok-next.ensures.entries);
+      at_most = omega (arith, few.at_most, c.in_ok-next.ensures.entries, ap (λ (xs : List BadEdge). length xs) are_needed);
+    }
+
+pub returns-clause-few_entries : goal.returns-clause-few_entries
+unfolding begun_at
+returns-clause-few_entries g c =
+    let P = g.P.Program.rules c.args.program.now in
+    let graph = c.args.graph.now in
+    let phase = c.args.phase in
+    let states = c.args.states.now in
+    let is_active : c.as_slice.result.now ≡ all_active P phase states = c.as_slice.ensures.value ∙ c.in_ok-next.ensures.active in
+    let are_needed : edges_over c.need-need.result graph c.as_slice.result.now ≡ needed P graph phase states = cc (is_active, c.need-need.ensures, edges_are_needed P graph phase states) in
+    let few = c.in_ok-messages.ensures.few_entries in
+    record {
+      at_least = omega (arith, few.at_least, c.in_ok-next.ensures.entries);
+      at_most = omega (arith, few.at_most, c.in_ok-next.ensures.entries, ap (λ (xs : List BadEdge). length xs) are_needed);
+    }

@@ -18,6 +18,7 @@ returns-then-entry-states g c =
     record {
       runs = inv.one_runs;
       ok_sound = tt;
+      few_entries = record { at_least = omega (arith, inv.more_entries); at_most = omega (arith, inv.more_entries, c.loop-place-test.true) };
       ok_states = tt;
       ok_entries = tt;
       err = sym inv.rest_bad ∙ entry_bad (length c.args.states.now) c.args.from.v c.args.dir c.loop-place.place c.args.entries.now c.loop-place-test.true past;
@@ -54,6 +55,7 @@ returns g c =
     record {
       runs = inv.one_runs;
       ok_sound = sym inv.rest_bad ∙ at_drop_all (λ (rest : List Entry). find (is_bad (length c.args.states.now)) (edges_from c.args.from.v c.args.dir place rest)) entries place done;
+      few_entries = record { at_least = omega (arith, inv.more_entries); at_most = omega (arith, inv.more_entries, c.loop-place.auto.place-end) };
       ok_states = sym (folded-nil P c.loop-place.states) ∙ sym (at_drop_all (λ (rest : List Entry). folded P (map (message_along P c.args.from.carry c.args.dir) rest) c.loop-place.states) entries place done) ∙ inv.rest_folded;
       ok_entries = omega (arith, inv.more_entries, c.loop-place.auto.place-end, done);
       err = tt;

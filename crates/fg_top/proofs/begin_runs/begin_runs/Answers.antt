@@ -1,11 +1,11 @@
-use Rattle.std.proofs.Common.{◌≡◌, ◌++◌, [], ◌∷◌, length, get_or, refl, sym, ap, ◌∙◌, arith}
+use Rattle.std.proofs.Common.{◌≡◌, ◌+◌, ◌++◌, [], ◌∷◌, length, get_or, refl, sym, ap, ◌∙◌, arith}
 use Rattle.std.proofs.lemmas.List.{length-append, take_all}
 use Rattle.std.proofs.lemmas.List.Elements.{All-nil, All-push, All-same}
 use Rattle.fg_base.specs.declared.plain.VState.{VState}
-use Rattle.fg_model.specs.Iteration.{own_state, states_after_runs}
+use Rattle.fg_model.specs.Iteration.{own_state, state_at, states_after_runs}
 use Rattle.fg_model.specs.Program.{IsInRange}
 use Rattle.fg_top.specs.Sending.{senders_of}
-use Rattle.fg_top.proofs.PagesBegin.{few-senders_of, senders_below, senders_below-more, states_after_runs-more, states_after_runs-nil}
+use Rattle.fg_top.proofs.PagesBegin.{few-senders_below, few-senders_of, senders_below, senders_below-more, states_after_runs-more, states_after_runs-nil}
 use Rattle.fg_top.proofs.begin_runs.begin_runs.Goals as goal
 
 pub loop-v-init : goal.loop-v-init
@@ -49,3 +49,24 @@ pub returns-clause-ok_senders : goal.returns-clause-ok_senders
 returns-clause-ok_senders g c =
     let end : c.loop-v.v ≡ length c.args.states.now = omega (arith, c.loop-v.auto.v-end) in
     c.loop-v.invariant.senders_so_far ∙ ap (senders_below (g.P.Program.rules c.args.program.now) c.args.phase c.args.states.now) end
+
+pub returns-clause-counted : goal.returns-clause-counted
+returns-clause-counted g c =
+    let P = g.P.Program.rules c.args.program.now in
+    let few = few-senders_below P c.args.phase c.args.states.now c.loop-v.v (omega arith) in
+    let so_far = ap length c.loop-v.invariant.senders_so_far in
+    let runs = c.loop-v.invariant.more_runs in
+    record { at_least = omega (arith, runs); at_most = omega (arith, runs, so_far, few) }
+
+pub returns-in_err-begin_run-clause-counted : goal.returns-in_err-begin_run-clause-counted
+returns-in_err-begin_run-clause-counted g c =
+    let P = g.P.Program.rules c.args.program.now in
+    let states = c.args.states.now in
+    let v = c.loop-v.v in
+    let one = senders_of P c.args.phase v (state_at states v) in
+    let next = ap length (senders_below-more P c.args.phase states v) ∙ length-append (senders_below P c.args.phase states v) one in
+    let few = few-senders_below P c.args.phase states (v + 1) (omega arith) in
+    let so_far = ap length c.loop-v.invariant.senders_so_far in
+    let runs = c.loop-v.invariant.more_runs in
+    let rose = c.begin_run.ensures.counted in
+    record { at_least = omega (arith, runs, rose.at_least); at_most = omega (arith, runs, so_far, next, few, rose.at_most) }

@@ -6,7 +6,7 @@ use Rattle.fg_top.specs.BuildOutcome.{BuildComesTo, built_line, input_over}
 use Rattle.fg_top.specs.Built.{BuildLeaves, MayBuild}
 use Rattle.fg_top.specs.Ends.{EndsLeaving, output_between}
 use Rattle.fg_top.specs.Outcome.{Outcome}
-use Rattle.fg_top.proofs.BuildDrives.{building_not_held, built_as_written, built_whole, cause_of_building, held_status, kept_built, kept_unbuilt, leaves_held, leaves_refused, left_by, over, unbuilt_refused}
+use Rattle.fg_top.proofs.BuildDrives.{building_not_held, building_not_text, built_as_written, built_whole, cause_of_building, held_status, kept_built, kept_unbuilt, leaves_held, leaves_refused, left_by, over, text_status, unbuilt_refused}
 use Rattle.fg_top.proofs.BuildEnds.{comes_built}
 use Rattle.fg_top.proofs.EndLemmas.{ends_done}
 use Rattle.fg_top.proofs.JobLemmas.{ends_refused}
@@ -183,3 +183,31 @@ returns-clause-sure g c =
 pub returns-clause-reads : goal.returns-clause-reads
 returns-clause-reads g c =
     EachSame-more g.D.Drive.log c.args.drives.now.items c.gather.new.drives.items c.build.new.drives.items c.gather.ensures.log c.build.ensures.log
+
+pub returns-in-Err-clause-stops : goal.returns-in-Err-clause-stops
+returns-in-Err-clause-stops g c =
+    let output = output_between (g.K.Sink.faults c.args.out.now) (g.K.Sink.faults c.refuse.new.out) (g.K.Sink.written c.args.out.now) (g.K.Sink.written c.refuse.new.out) (g.K.Sink.keeps_back c.refuse.new.out) in
+    λ is.
+    let of_text = text_status output c.in-Err.refusal (refusal_line c.in-Err.refusal) c.refuse.result c.refuse.ensures is in
+    record { refusal = c.in-Err.refusal; of_text = of_text; stopped = c.in-Err.ensures.stops of_text }
+
+pub returns-in-Err-build-clause-stops : goal.returns-in-Err-build-clause-stops
+returns-in-Err-build-clause-stops g c =
+    let output = output_between (g.K.Sink.faults c.args.out.now) (g.K.Sink.faults c.refuse-in-Err-build.new.out) (g.K.Sink.written c.args.out.now) (g.K.Sink.written c.refuse-in-Err-build.new.out) (g.K.Sink.keeps_back c.refuse-in-Err-build.new.out) in
+    let refusal = c.in-Err-build.refusal in
+    λ is. absurd (building_not_text g.D.Drive.faults c.gather.new.drives.items c.build.new.drives.items refusal c.in-Err-build.ensures.counts
+    (text_status output refusal (refusal_line refusal) c.refuse-in-Err-build.result c.refuse-in-Err-build.ensures is))
+
+pub returns-in-Err-clause-told : goal.returns-in-Err-clause-told
+returns-in-Err-clause-told g c =
+    let output = output_between (g.K.Sink.faults c.args.out.now) (g.K.Sink.faults c.refuse.new.out) (g.K.Sink.written c.args.out.now) (g.K.Sink.written c.refuse.new.out) (g.K.Sink.keeps_back c.refuse.new.out) in
+    λ seven.
+    let of_drives = held_status output c.in-Err.refusal (refusal_line c.in-Err.refusal) c.refuse.result c.refuse.ensures seven in
+    record { refusal = c.in-Err.refusal; of_drives = of_drives; by_told = c.in-Err.ensures.told_err of_drives }
+
+pub returns-in-Err-build-clause-told : goal.returns-in-Err-build-clause-told
+returns-in-Err-build-clause-told g c =
+    let output = output_between (g.K.Sink.faults c.args.out.now) (g.K.Sink.faults c.refuse-in-Err-build.new.out) (g.K.Sink.written c.args.out.now) (g.K.Sink.written c.refuse-in-Err-build.new.out) (g.K.Sink.keeps_back c.refuse-in-Err-build.new.out) in
+    let refusal = c.in-Err-build.refusal in
+    λ seven. absurd (building_not_held g.D.Drive.faults c.gather.new.drives.items c.build.new.drives.items refusal c.in-Err-build.ensures.counts
+    (held_status output refusal (refusal_line refusal) c.refuse-in-Err-build.result c.refuse-in-Err-build.ensures seven))

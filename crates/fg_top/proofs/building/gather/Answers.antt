@@ -2,13 +2,14 @@ use Rattle.std.proofs.Common.{◌≡◌, refl}
 use Rattle.std.proofs.lemmas.Result.{IfErr-weaker}
 use Rattle.fg_outside.specs.Drives.{all_told}
 use Rattle.fg_outside.proofs.DriveLemmas.{all_told-length}
-use Rattle.fg_top.proofs.BuildEnds.{cause_of_looking, cause_of_text, text_not_held}
+use Rattle.fg_top.proofs.BuildEnds.{cause_of_looking, cause_of_text, looking_not_text, text_not_held}
 use Rattle.fg_top.specs.BuildOutcome.{BuildComesTo, input_over}
 use Rattle.fg_top.specs.Ends.{IsCause}
 use Rattle.fg_base.specs.Refusal.{status_of}
 use Rattle.fg_report.specs.Refusals.{refusal_line}
 use Rattle.fg_text.specs.Read.{ReadRefused}
-use Rattle.std.specs.Prelude.{length, Some}
+use Rattle.std.specs.Prelude.{Err, length, Some}
+use Rattle.fg_build.specs.PagesTold.{EmptyTold}
 use Rattle.fg_top.proofs.building.gather.Goals as goal
 
 pub returns-in-Err-clause-cause : goal.returns-in-Err-clause-cause
@@ -44,4 +45,22 @@ returns-clause-unread g c =
     IfErr-weaker c.read_edges.result (ReadRefused c.args.undirected (left old) (left new) before after)
     (λ refusal. status_of refusal ≡ 7 → left new ≡ left old)
     (λ refusal why is. absurd (text_not_held c.args.undirected (left old) (left new) before after refusal why is))
+    c.read_edges.ensures.refused
+
+pub returns-in-Err-clause-stops : goal.returns-in-Err-clause-stops
+returns-in-Err-clause-stops g c = λ is. absurd (looking_not_text g.D.Drive.faults c.args.drives.now.items c.empty.new.drives.items c.in-Err.refusal c.in-Err.ensures.counts is)
+
+pub returns-clause-stops : goal.returns-clause-stops
+returns-clause-stops g c =
+    let Refused = ReadRefused c.args.undirected (g.S.Source.left c.args.input.now) (g.S.Source.left c.read_edges.new.input) (g.S.Source.faults c.args.input.now) (g.S.Source.faults c.read_edges.new.input) in
+    IfErr-weaker c.read_edges.result Refused (λ refusal. status_of refusal ≡ 6 → Refused refusal) (λ refusal why is. why) c.read_edges.ensures.refused
+
+pub returns-clause-told_err : goal.returns-clause-told_err
+returns-clause-told_err g c =
+    let left = g.S.Source.left in
+    let before = g.S.Source.faults c.args.input.now in
+    let after = g.S.Source.faults c.read_edges.new.input in
+    IfErr-weaker c.read_edges.result (ReadRefused c.args.undirected (left c.args.input.now) (left c.read_edges.new.input) before after)
+    (λ refusal. status_of refusal ≡ 7 → EmptyTold g.D.Drive.told c.args.drives.now.items c.empty.new.drives.items (Err refusal))
+    (λ refusal why is. absurd (text_not_held c.args.undirected (left c.args.input.now) (left c.read_edges.new.input) before after refusal why is))
     c.read_edges.ensures.refused

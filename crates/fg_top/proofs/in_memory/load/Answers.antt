@@ -1,7 +1,7 @@
 use Rattle.fg_outside.specs.Drives.{all_told}
 use Rattle.fg_outside.proofs.DriveLemmas.{EachSame-more, RoomyKept-more, all_told-same}
 use Rattle.fg_top.proofs.JobLemmas.{ref_reads_all, ref_reads_first, ref_reads_some, runs_loaded}
-use Rattle.fg_top.proofs.OutcomeLemmas.{cause_of_reading, reading_not_output}
+use Rattle.fg_top.proofs.OutcomeLemmas.{cause_of_reading, reading_not_held, reading_not_output}
 use Rattle.fg_top.proofs.in_memory.load.Goals as goal
 
 pub returns-in-Err-clause-reads : goal.returns-in-Err-clause-reads
@@ -58,3 +58,7 @@ returns-clause-held g c =
 pub returns-clause-sure : goal.returns-clause-sure
 returns-clause-sure g c =
     RoomyKept-more g.D.Drive.room g.D.Drive.faults c.args.drives.now.items c.open_sourced.new.drives.items c.read_graph.new.drives.items c.in-Ok.ensures.room c.in-Ok.ensures.sure c.read_graph.ensures.sure
+
+pub returns-clause-told_err : goal.returns-clause-told_err
+returns-clause-told_err g c =
+    λ seven. absurd (reading_not_held g.D.Drive.faults c.open_sourced.new.drives.items c.read_graph.new.drives.items c.in-Err-read_graph.refusal c.in-Err-read_graph.ensures.counts seven)

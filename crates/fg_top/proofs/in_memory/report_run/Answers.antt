@@ -1,14 +1,17 @@
-use Rattle.std.proofs.Common.{ℕ, Some, [], Result, Ok, Err, OnOk, subst, rules}
+use Rattle.std.proofs.Common.{ℕ, Some, [], subst, rules}
 use Rattle.fg_model.specs.Program.{Rules}
 use Rattle.fg_model.specs.Run.{run}
 use Rattle.fg_top.specs.Ends.{EndsAlone, output_between}
 use Rattle.fg_top.specs.Outcome.{rules_of}
 use Rattle.fg_top.specs.Running.{RunComesTo}
-use Rattle.fg_top.proofs.RunEnds.{ends_of_run, plain_bad, plain_cause, plain_shown}
+use Rattle.fg_top.proofs.RunEnds.{closed_not_held, ends_of_run, plain_counts}
 use Rattle.fg_top.proofs.in_memory.report_run.Goals as goal
 
-pub returns : goal.returns
-returns g c =
+pub returns-clause-began : goal.returns-clause-began
+returns-clause-began g c = closed_not_held c.args.wish.quiet _ _ _ _ _ _ c.plain_run-answer.result c.close_run.result c.close_run.ensures
+
+pub returns-clause-ends : goal.returns-clause-ends
+returns-clause-ends g c =
     let ran = c.plain_run-answer in
     let wish = c.args.wish in
     let graph = c.args.graph.now in
@@ -23,10 +26,5 @@ returns g c =
     (output_between f0 (g.K.Sink.faults sink) t0 (g.K.Sink.written sink) (g.K.Sink.keeps_back sink)) c.close_run.result in
     let ends : At last P = ends_of_run {D = ℕ} (λ drive. drive) [] [] P wish (Some graph) (λ graph. run P graph wish.max)
     (λ end. Unit {0}) ran.result f0 f1 (g.K.Sink.faults last) t0 t1 (g.K.Sink.written last) (g.K.Sink.keeps_back last) c.close_run.result
-    (λ end. tt) ran.ensures.grew ran.ensures.ok (kept ran.result) ran.ensures.ok_watch ran.ensures.ok_shown (plain_cause ran.result f0 f1 ran.ensures.faults) (plain_bad ran.result (run P graph wish.max) ran.ensures.bad_edge)
-    (plain_shown ran.result P wish t0 t1 (run P graph wish.max) ran.ensures.shown) c.close_run.ensures in
+    (λ end. tt) ran.ensures.grew ran.ensures.answer (plain_counts ran.result f0 f1 ran.ensures.faults) ran.ensures.shown c.close_run.ensures in
     subst (λ (sink : g.row.K.Denot). At sink (rules_of wish.pick)) (search rules) (subst (At last) c.requires.picked ends)
-  where
-    kept : {A E : Type 0} (answer : Result A E) → OnOk answer (Unit {0})
-    kept (Ok value) = tt
-    kept (Err fault) = tt

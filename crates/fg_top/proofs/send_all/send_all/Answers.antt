@@ -3,16 +3,17 @@ use Rattle.std.proofs.lemmas.List.{get_or_default}
 use Rattle.fg_outside.specs.Drives.{all_told}
 use Rattle.fg_outside.proofs.DriveLemmas.{EachDrive-same, EachSame-more, all_told-same}
 use Rattle.fg_top.specs.declared.send.Sender.{Sender}
-use Rattle.fg_top.specs.Asked.{IsPageForSome}
-use Rattle.fg_top.specs.AskedLaws.{OnlyRead-none}
-use Rattle.fg_top.specs.Lists.{edges_on, image_told, is_told, messages_on, over_needed}
-use Rattle.fg_top.specs.OnlyRead.{telling}
-use Rattle.fg_top.specs.Sending.{AreSent, first_bad_of, vertex_of}
+use Rattle.fg_build.specs.Asked.{IsReadForSome}
+use Rattle.fg_build.proofs.AskedLaws.{OnlyRead-none}
+use Rattle.fg_build.specs.ToldImage.{image_told, is_told}
+use Rattle.fg_top.specs.Lists.{edges_on, messages_on, over_needed}
+use Rattle.fg_build.specs.OnlyRead.{telling}
+use Rattle.fg_top.specs.Sending.{AreSent, edges_all, first_bad_of, sent_all, vertex_of}
 use Rattle.fg_top.proofs.PagesReads.{HoldWhole-after}
 use Rattle.fg_top.proofs.PagesSending.{goes_on-start}
 use Rattle.fg_top.proofs.PagesStretches.{few-vertex, few-all}
 use Rattle.fg_top.proofs.PagesTold.{MatchIterFault-weaker, faults-after, told-after}
-use Rattle.fg_top.proofs.PagesVertices.{Ascend-next, OnlyRead-vertex, count-vertex, count-no_vertices, edges_all, sent_all, goes_on-vertex, goes_on-bad_vertex, goes_on-no_vertices}
+use Rattle.fg_top.proofs.PagesVertices.{Ascend-next, OnlyRead-vertex, count-vertex, count-no_vertices, goes_on-vertex, goes_on-bad_vertex, goes_on-no_vertices}
 use Rattle.fg_top.proofs.send_all.send_all.Goals as goal
 
 pub loop-sender-init : goal.loop-sender-init
@@ -25,7 +26,7 @@ loop-sender-init g c =
       low = 0;
       ascends = c.requires.ascend;
       few = omega arith;
-      only_so_far = OnlyRead-none T (IsPageForSome o.layout o.index P.need (map vertex_of c.args.senders.now)) c.args.drives.now;
+      only_so_far = OnlyRead-none T (IsReadForSome 1 o.layout o.index P.need (map vertex_of c.args.senders.now)) c.args.drives.now;
       same_faults = EachDrive-same (λ old new. g.D.Drive.faults new ≡ g.D.Drive.faults old) (λ drive. refl) c.args.drives.now;
       same_runs = refl;
       more_entries = omega arith;
@@ -44,7 +45,7 @@ loop-sender-preserved g c =
     let drives = c.loop-sender.drives in
     let told = all_told g.D.Drive.held olds in
     let image = image_told o.layout told in
-    let Asked = IsPageForSome o.layout o.index P.need (map vertex_of senders) in
+    let Asked = IsReadForSome 1 o.layout o.index P.need (map vertex_of senders) in
     let so_far = c.loop-sender.invariant.only_so_far in
     let i = c.loop-sender.sender-index in
     let zero_sender : Sender = record { v = 0; carry = 0 } in
@@ -79,7 +80,7 @@ send_vertex-requires-clause-told g c =
     let P = g.P.Program.rules c.args.program.now in
     let T = telling g.D.Drive.held g.D.Drive.log g.D.Drive.told g.D.Drive.room g.D.Drive.faults in
     let o = c.args.opened.now in
-    HoldWhole-after T (IsPageForSome o.layout o.index P.need (map vertex_of c.args.senders.now)) o.layout c.args.drives.now c.loop-sender.drives c.loop-sender.invariant.only_so_far c.requires.told
+    HoldWhole-after T (IsReadForSome 1 o.layout o.index P.need (map vertex_of c.args.senders.now)) o.layout c.args.drives.now c.loop-sender.drives c.loop-sender.invariant.only_so_far c.requires.told
 
 pub send_vertex-requires-clause-within : goal.send_vertex-requires-clause-within
 send_vertex-requires-clause-within g c =
@@ -144,11 +145,41 @@ returns-in-Err-clause-bad_edge g c =
     let m = length c.loop-sender.states in
     let need = c.need-need.result in
     let Q : (bad : _) → List ℕ → Type 0 = λ bad b. first_bad_of m (over_needed need (edges_on o b sender.v)) ≡ Some bad in
-    MatchIterFault-weaker c.in-Err.fault (λ drive. Unit {0}) (λ drive. Unit {0})
+    MatchIterFault-weaker c.in-Err.fault (Unit {0}) (Unit {0}) (λ drive. Unit {0}) (λ drive. Unit {0})
     (λ bad. is_told later ≡ true → Q bad (image_told o.layout later))
     (λ bad. is_told told ≡ true → first_bad_of n (edges_all P o image senders) ≡ Some bad)
-    (λ drive known. tt)
+    (λ known. tt) (λ drive known. tt)
     (λ bad known told_is. goes_on-bad_vertex P n m need o image senders i sender (edges_all P o image senders) (sent_all P o image senders) c.args.states.now c.loop-sender.states bad
     c.loop-sender.auto.states c.need-need.ensures c.loop-sender-test.true is next.1 (c.loop-sender.invariant.goes told_is)
-    (told-after T (IsPageForSome o.layout o.index P.need (map vertex_of senders)) o.layout c.args.drives.now c.loop-sender.drives (Q bad) c.loop-sender.invariant.only_so_far known told_is))
+    (told-after T (IsReadForSome 1 o.layout o.index P.need (map vertex_of senders)) o.layout c.args.drives.now c.loop-sender.drives (Q bad) c.loop-sender.invariant.only_so_far known told_is))
     c.in-Err.ensures.bad_edge
+
+pub returns-clause-counted : goal.returns-clause-counted
+returns-clause-counted g c =
+    let more = c.loop-sender.invariant.more_entries in
+    record { at_least = omega (arith, more); at_most = omega (arith, more, c.loop-sender.invariant.counted) }
+
+pub returns-in-Err-clause-counted : goal.returns-in-Err-clause-counted
+returns-in-Err-clause-counted g c =
+    let P = g.P.Program.rules c.args.program.now in
+    let T = telling g.D.Drive.held g.D.Drive.log g.D.Drive.told g.D.Drive.room g.D.Drive.faults in
+    let o = c.args.opened.now in
+    let senders = c.args.senders.now in
+    let olds = c.args.drives.now in
+    let drives = c.loop-sender.drives in
+    let told = all_told g.D.Drive.held olds in
+    let image = image_told o.layout told in
+    let i = c.loop-sender.sender-index in
+    let zero_sender : Sender = record { v = 0; carry = 0 } in
+    let sender : Sender = get_or senders i zero_sender in
+    let below = c.loop-sender-test.true in
+    let is : get_or senders i sender ≡ sender = get_or_default senders i sender zero_sender below in
+    let next = Ascend-next c.loop-sender.invariant.low (length o.index.outs) senders i zero_sender below c.loop-sender.invariant.ascends in
+    let need = c.need-need.result in
+    let same : all_told g.D.Drive.held drives ≡ told = all_told-same g.D.Drive.held olds drives c.loop-sender.invariant.only_so_far.same_held in
+    let most = length (over_needed need (edges_on o (image_told o.layout (all_told g.D.Drive.held drives)) sender.v)) in
+    let all = count-vertex P need o image senders i sender c.loop-sender.messages most (length (edges_all P o image senders)) c.need-need.ensures below is next.1
+    (ap (λ all. length (over_needed need (edges_on o (image_told o.layout all) sender.v))) same) c.loop-sender.invariant.counted in
+    let more = c.loop-sender.invariant.more_entries in
+    let sent = c.in-Err.ensures.counted in
+    record { at_least = omega (arith, more, sent.at_least); at_most = omega (arith, more, sent.at_most, all) }

@@ -1,12 +1,11 @@
 use Rattle.std.proofs.Common.{◌≡◌, ℕ, ◌+◌, ◌≤◌, All, drop, length, map, sum, take, true}
 use Rattle.fg_model.specs.Program.{IsInRange}
 use Rattle.fg_outside.specs.Drives.{NoneRose, all_told}
-use Rattle.fg_top.specs.Asked.{IsPageForSome}
-use Rattle.fg_top.specs.Lists.{image_told, is_told}
-use Rattle.fg_top.specs.OnlyRead.{OnlyRead, telling}
-use Rattle.fg_top.specs.Sending.{Ascend, vertex_of}
+use Rattle.fg_build.specs.Asked.{IsReadForSome}
+use Rattle.fg_build.specs.ToldImage.{image_told, is_told}
+use Rattle.fg_build.specs.OnlyRead.{OnlyRead, telling}
+use Rattle.fg_top.specs.Sending.{Ascend, edges_all, sent_all, vertex_of}
 use Rattle.fg_top.proofs.PagesSending.{GoesOn}
-use Rattle.fg_top.proofs.PagesVertices.{edges_all, sent_all}
 use Rattle.fg_top.proofs.send_all.send_all.Given as goal
 
 abbrev pub invariant-loop-sender : goal.invariant-loop-sender
@@ -20,7 +19,7 @@ invariant-loop-sender g l =
       low : ℕ;
       ascends : Ascend low (length l.opened.index.outs) (map vertex_of rest);
       few : l.messages ≤ sum (take low l.opened.index.outs) + sum (take low l.opened.index.ins);
-      only_so_far : OnlyRead T (IsPageForSome l.opened.layout l.opened.index P.need (map vertex_of l.senders)) l.initial.drives l.drives;
+      only_so_far : OnlyRead T (IsReadForSome 1 l.opened.layout l.opened.index P.need (map vertex_of l.senders)) l.initial.drives l.drives;
       same_faults : NoneRose g.D.Drive.faults l.initial.drives l.drives;
       same_runs : g.T.Tally.runs l.tally ≡ g.T.Tally.runs l.initial.tally;
       more_entries : g.T.Tally.entries l.tally ≡ g.T.Tally.entries l.initial.tally + l.messages;

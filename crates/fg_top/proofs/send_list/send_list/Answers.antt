@@ -2,9 +2,10 @@ use Rattle.std.proofs.Common.{◌≡◌, ◌∙◌, ℕ, List, length, refl, ari
 use Rattle.fg_outside.specs.Drives.{all_told}
 use Rattle.fg_outside.proofs.DriveLemmas.{EachDrive-same, EachSame-more}
 use Rattle.fg_stripe.specs.Held.{page_of}
-use Rattle.fg_top.specs.AskedLaws.{OnlyRead-none}
-use Rattle.fg_top.specs.Lists.{image_told}
-use Rattle.fg_top.specs.OnlyRead.{IsPageIn, telling}
+use Rattle.fg_build.proofs.AskedLaws.{OnlyRead-none}
+use Rattle.fg_build.specs.ToldImage.{image_told}
+use Rattle.fg_build.specs.OnlyRead.{telling}
+use Rattle.fg_top.specs.Lists.{IsPageIn}
 use Rattle.fg_top.proofs.PagesReads.{HoldWhole-after, OnlyRead-part}
 use Rattle.fg_top.proofs.PagesSending.{goes_on-bad_page, goes_on-entries, goes_on-no_entries, goes_on-page}
 use Rattle.fg_top.proofs.PagesTold.{faults-after, faults-no_edge, told-after}
@@ -33,7 +34,7 @@ read_image_page-requires-clause-told g c =
 pub returns-in-Err-clause-only_read : goal.returns-in-Err-clause-only_read
 returns-in-Err-clause-only_read g c =
     let T = telling g.D.Drive.held g.D.Drive.log g.D.Drive.told g.D.Drive.room g.D.Drive.faults in
-    OnlyRead-part T c.args.opened.now.layout c.args.stretch c.part_behind-part.result c.loop-done.done c.args.drives.now c.loop-done.drives c.read_image_page.new.drives
+    OnlyRead-part T c.args.opened.now.layout c.requires.fits.some_drives c.requires.fits.some_unit c.args.stretch c.part_behind-part.result c.loop-done.done c.args.drives.now c.loop-done.drives c.read_image_page.new.drives
     c.part_behind-part.ensures.part c.loop-done.invariant.only_so_far c.in-Err.ensures.only_read
 
 pub returns-in-Err-clause-faults : goal.returns-in-Err-clause-faults
@@ -45,7 +46,7 @@ pub returns-in-Err-send_along-clause-only_read :
     goal.returns-in-Err-send_along-clause-only_read
 returns-in-Err-send_along-clause-only_read g c =
     let T = telling g.D.Drive.held g.D.Drive.log g.D.Drive.told g.D.Drive.room g.D.Drive.faults in
-    OnlyRead-part T c.args.opened.now.layout c.args.stretch c.part_behind-part.result c.loop-done.done c.args.drives.now c.loop-done.drives c.read_image_page.new.drives
+    OnlyRead-part T c.args.opened.now.layout c.requires.fits.some_drives c.requires.fits.some_unit c.args.stretch c.part_behind-part.result c.loop-done.done c.args.drives.now c.loop-done.drives c.read_image_page.new.drives
     c.part_behind-part.ensures.part c.loop-done.invariant.only_so_far c.in_default.ensures.only_read
 
 pub returns-in-Err-send_along-clause-faults : goal.returns-in-Err-send_along-clause-faults
@@ -74,7 +75,7 @@ loop-done-preserved g c =
     let sent = c.in_default-send_along.ensures in
     record {
       within_list = c.part_behind-part.ensures.part.within_list;
-      only_so_far = OnlyRead-part T layout c.args.stretch part c.loop-done.done c.args.drives.now c.loop-done.drives c.read_image_page.new.drives
+      only_so_far = OnlyRead-part T layout c.requires.fits.some_drives c.requires.fits.some_unit c.args.stretch part c.loop-done.done c.args.drives.now c.loop-done.drives c.read_image_page.new.drives
           c.part_behind-part.ensures.part c.loop-done.invariant.only_so_far c.in_default.ensures.only_read;
       same_faults = EachSame-more g.D.Drive.faults c.args.drives.now c.loop-done.drives c.read_image_page.new.drives c.loop-done.invariant.same_faults c.in_default.ensures.ok_kept;
       same_runs = sent.runs ∙ c.loop-done.invariant.same_runs;
@@ -94,3 +95,9 @@ returns-clause-ok g c told =
     goes_on-no_entries (g.P.Program.rules c.args.program.now) (length c.args.states.now) c.args.sender.v c.args.dir c.args.sender.carry c.loop-done.done s.weighted
     (image_told c.args.opened.now.layout (all_told g.D.Drive.held c.args.drives.now)) s.begin s.count c.loop-done.done
     _ _ c.args.states.now c.loop-done.states c.loop-done-test.false (c.loop-done.invariant.goes told)
+
+pub returns-in-Err-send_along-clause-counted : goal.returns-in-Err-send_along-clause-counted
+returns-in-Err-send_along-clause-counted g c =
+    let all = c.part_behind-part.ensures.part.within_list in
+    let sent = c.in-Err-send_along.ensures.counted in
+    record { at_least = omega (arith, c.loop-done.invariant.more_entries, sent.at_least); at_most = omega (arith, c.loop-done.invariant.more_entries, sent.at_most, all) }

@@ -2,8 +2,9 @@ use Rattle.std.proofs.Common.{◌-◌, ◌≡◌, ◌+◌, ◌≤◌, All, lengt
 use Rattle.fg_model.specs.Program.{IsInRange}
 use Rattle.fg_model.specs.VertexRun.{edges_from, message_along}
 use Rattle.fg_outside.specs.Drives.{NoneRose, all_told}
-use Rattle.fg_top.specs.Lists.{entries_on, image_told, is_told}
-use Rattle.fg_top.specs.OnlyRead.{IsPageIn, OnlyRead, telling}
+use Rattle.fg_build.specs.ToldImage.{image_told, is_told}
+use Rattle.fg_top.specs.Lists.{entries_on, IsPageIn}
+use Rattle.fg_build.specs.OnlyRead.{OnlyRead, telling}
 use Rattle.fg_top.proofs.PagesEntries.{entries_behind}
 use Rattle.fg_top.proofs.PagesSending.{ListGoesOn}
 use Rattle.fg_top.proofs.send_list.send_list.Given as goal

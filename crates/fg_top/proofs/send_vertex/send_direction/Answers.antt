@@ -1,12 +1,14 @@
-use Rattle.std.proofs.Common.{◌≡◌, ◌≤◌, length, sym, ap, ◌∙◌, arith}
+use Rattle.std.proofs.Common.{◌≡◌, ℕ, ◌≤◌, length, sym, ap, subst, ◌∙◌, arith}
 use Rattle.std.specs.List.{slice_index}
 use Rattle.std.proofs.lemmas.Result.{IfOk-weaker}
 use Rattle.fg_image.proofs.EntryLaws.{length-entries_at}
 use Rattle.fg_image.proofs.SpanLaws.{begin_whole, end_within}
 use Rattle.fg_index.specs.ImageIndex.{degrees_in}
+use Rattle.fg_model.specs.Engine.{RoseUpTo}
 use Rattle.fg_outside.specs.Drives.{all_told}
 use Rattle.fg_top.specs.declared.lists.Stretch.{Stretch}
-use Rattle.fg_top.specs.Lists.{edges_on, entries_on, image_told, stretch_of}
+use Rattle.fg_build.specs.ToldImage.{image_told}
+use Rattle.fg_top.specs.Lists.{edges_on, entries_on, stretch_of}
 use Rattle.fg_top.proofs.PagesEntries.{length-edges_from}
 use Rattle.fg_top.proofs.send_vertex.send_direction.Goals as goal
 
@@ -45,3 +47,14 @@ returns-clause-ok_few g c =
 
 pub returns-clause-bad_edge : goal.returns-clause-bad_edge
 returns-clause-bad_edge g c = rw c.new-stretch.ensures at c.send_list.ensures.bad_edge
+
+pub returns-clause-counted : goal.returns-clause-counted
+returns-clause-counted g c =
+    let o = c.args.opened.now in
+    let image = image_told o.layout (all_told g.D.Drive.held c.args.drives.now) in
+    let stretch = stretch_of o c.args.dir c.args.sender.v in
+    let count : c.new-stretch.result.count ≡ length (edges_on o image c.args.sender.v c.args.dir) =
+    ap (λ (s : Stretch). s.count) c.new-stretch.ensures ∙ sym (length-entries_at stretch.weighted image stretch.begin stretch.count)
+    ∙ sym (length-edges_from c.args.sender.v c.args.dir (entries_on image stretch) 0) in
+    let Up : ℕ → Type 0 = λ most. RoseUpTo most (g.T.Tally.entries c.args.tally.now) (g.T.Tally.entries c.send_list.new.tally) in
+    subst Up count c.send_list.ensures.counted

@@ -1,6 +1,6 @@
 use Rattle.fg_base.specs.declared.plain.Dir.TheVariants as Dir
 use Rattle.fg_base.specs.declared.plain.Need.TheVariants as Need
-use Rattle.fg_top.specs.OnlyRead.{telling}
+use Rattle.fg_build.specs.OnlyRead.{telling}
 use Rattle.fg_top.proofs.PagesReads.{OnlyRead-for, needs-out, needs-in}
 use Rattle.fg_top.proofs.send_vertex.send_vertex.Goals as goal
 

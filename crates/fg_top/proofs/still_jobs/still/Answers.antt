@@ -9,7 +9,7 @@ use Rattle.fg_top.specs.JobLeaves.{DoneBy, LeavesAt}
 use Rattle.fg_top.specs.JobOutcome.{JobComesTo}
 use Rattle.fg_top.specs.Reads.{ReadsAllBy, ReadsBy}
 use Rattle.fg_top.proofs.EndLemmas.{ends_in_memory}
-use Rattle.fg_top.proofs.FlashLemmas.{always, held_same, keeps_nothing, leaves_nothing}
+use Rattle.fg_top.proofs.FlashLemmas.{always, held_same, keeps_nothing, leaves_nothing, logs_nothing}
 use Rattle.fg_top.proofs.still_jobs.still.Goals as goal
 
 pub returns-in-Build-clause-ends : goal.returns-in-Build-clause-ends
@@ -94,3 +94,6 @@ returns-in-Gen-clause-all_read g c =
     let told = all_told g.D.Drive.held olds in
     let P : Job → Type 0 = λ job. IfSome told (λ helds. ReadsAllBy g.D.Drive.log (Ok job) helds olds olds) in
     λ zero. subst P (sym c.in-Gen.is) (always told (LogsGrew g.D.Drive.log [] olds olds) (LogsGrew-none g.D.Drive.log olds))
+
+pub returns-in-Gen-clause-logs : goal.returns-in-Gen-clause-logs
+returns-in-Gen-clause-logs g c = logs_nothing g.D.Drive.log (Ok c.args.job.now) c.args.drives.now.items

@@ -1,9 +1,12 @@
-use Rattle.std.proofs.Common.{◌≡◌, ◌∙◌, ◌<◌, ap, sym}
+use Rattle.std.proofs.Common.{◌≡◌, ◌∙◌, ◌<◌, ap, sym, subst}
 use Rattle.fg_set.specs.Directory.{set_of}
 use Rattle.fg_set.specs.DirectoryStep.{Ended, failed}
-use Rattle.fg_set.specs.PageSet.{IsSound, ways_of}
+use Rattle.fg_set.specs.Change.{ChangesOne, KeepsPinned, ListsNoMore}
+use Rattle.fg_set.specs.Entry.{emptied}
+use Rattle.fg_set.specs.PageSet.{PageSet, IsSound, ways_of}
 use Rattle.fg_set.proofs.DirectoryLemmas.{with_back, seen_back, directory_back}
 use Rattle.fg_set.proofs.SoundLemmas.{sound-failed}
+use Rattle.fg_set.proofs.KeepLemmas.{ended_change, ended_pinned, fail_listed}
 use Rattle.fg_set.proofs.PlacedLemmas.{done_exactly, placed_tells}
 use Rattle.fg_set.proofs.directory.Directory.fail.Goals as goal
 use Rattle.fg_set.proofs.directory.Directory.fail.Goals.{After-self-1}
@@ -32,7 +35,26 @@ returns-clause-done_exactly c = rw (answer c) (done_exactly c.args.frame c.args.
 
 pub returns-clause-tells : goal.returns-clause-tells
 returns-clause-tells c =
-    rw (answer c, seen c ∙ ap (λ s. (failed c.args.frame c.args.page s).after) c.self.view_is) (placed_tells c.args.frame c.args.page c.args.self.now _)
+    rw (answer c, seen c ∙ ap (λ s. (failed c.args.frame c.args.page s).after) c.self.view_is) (placed_tells c.args.frame c.args.page emptied c.args.self.now)
 
 pub returns-clause-sound : goal.returns-clause-sound
 returns-clause-sound c = rw (seen c) (sound c)
+
+-- the fields before and after, as contracts see the directory
+before_within : (c : After-self-1) → c.args.frame < ways_of (set_of c.self.inside)
+before_within c = rw (← c.self.view_is) at c.requires
+
+pub returns-clause-change : goal.returns-clause-change
+returns-clause-change c =
+    subst (λ (s : PageSet). ChangesOne s (set_of (with_back c.self.inside c.from-ways.result c.give_up.new.entries c.self.inside.hand)) c.args.frame) c.self.view_is (subst (λ (s : PageSet). ChangesOne (set_of c.self.inside) s c.args.frame) (sym (seen c))
+    (ended_change c.args.frame c.args.page emptied (set_of c.self.inside) c.self.invariant.sound (before_within c)))
+
+pub returns-clause-pinned : goal.returns-clause-pinned
+returns-clause-pinned c =
+    subst (λ (s : PageSet). KeepsPinned s (set_of (with_back c.self.inside c.from-ways.result c.give_up.new.entries c.self.inside.hand))) c.self.view_is (subst (λ (s : PageSet). KeepsPinned (set_of c.self.inside) s) (sym (seen c))
+    (ended_pinned c.args.frame c.args.page emptied (set_of c.self.inside) c.self.invariant.sound (before_within c)))
+
+pub returns-clause-listed : goal.returns-clause-listed
+returns-clause-listed c =
+    subst (λ (s : PageSet). ListsNoMore s (set_of (with_back c.self.inside c.from-ways.result c.give_up.new.entries c.self.inside.hand))) c.self.view_is (subst (λ (s : PageSet). ListsNoMore (set_of c.self.inside) s) (sym (seen c))
+    (fail_listed c.args.frame c.args.page (set_of c.self.inside) c.self.invariant.sound (before_within c)))

@@ -1,9 +1,12 @@
-use Rattle.std.proofs.Common.{◌≡◌, ◌∙◌, ◌<◌, ap, sym}
+use Rattle.std.proofs.Common.{◌≡◌, ◌∙◌, ◌<◌, ap, sym, subst}
 use Rattle.fg_set.specs.Directory.{set_of}
 use Rattle.fg_set.specs.DirectoryStep.{unpinned}
-use Rattle.fg_set.specs.PageSet.{IsSound, ways_of}
+use Rattle.fg_set.specs.Change.{ChangesOne, KeepsPinned, ListsNoMore}
+use Rattle.fg_set.specs.Entry.{unpinned_by}
+use Rattle.fg_set.specs.PageSet.{PageSet, IsSound, ways_of, entry_at}
 use Rattle.fg_set.proofs.DirectoryLemmas.{with_back, seen_back, directory_back}
-use Rattle.fg_set.proofs.SoundLemmas.{sound-unpinned}
+use Rattle.fg_set.proofs.KeepLemmas.{unpin_pinned, unpin_listed}
+use Rattle.fg_set.proofs.SoundLemmas.{change-with_entry, sound-unpinned}
 use Rattle.fg_set.proofs.directory.Directory.unpin.Goals as goal
 use Rattle.fg_set.proofs.directory.Directory.unpin.Goals.{After-self-1}
 
@@ -26,3 +29,25 @@ returns-clause-after c = seen c ∙ ap (unpinned c.args.worker c.args.frame) c.s
 
 pub returns-clause-sound : goal.returns-clause-sound
 returns-clause-sound c = rw (seen c) (sound c)
+
+-- the fields before and after, as contracts see the directory
+before_within : (c : After-self-1) → c.args.frame < ways_of (set_of c.self.inside)
+before_within c = rw (← c.self.view_is) at c.requires.frame
+
+pub returns-clause-becomes : goal.returns-clause-becomes
+returns-clause-becomes c = seen c ∙ ap (unpinned c.args.worker c.args.frame) c.self.view_is
+
+pub returns-clause-change : goal.returns-clause-change
+returns-clause-change c =
+    subst (λ (s : PageSet). ChangesOne s (set_of (with_back c.self.inside c.from-ways.result c.unpin.new.entries c.self.inside.hand)) c.args.frame) c.self.view_is (subst (λ (s : PageSet). ChangesOne (set_of c.self.inside) s c.args.frame) (sym (seen c))
+    (change-with_entry (set_of c.self.inside) c.args.frame (unpinned_by c.args.worker (entry_at (set_of c.self.inside) c.args.frame)) c.self.invariant.sound))
+
+pub returns-clause-pinned : goal.returns-clause-pinned
+returns-clause-pinned c =
+    subst (λ (s : PageSet). KeepsPinned s (set_of (with_back c.self.inside c.from-ways.result c.unpin.new.entries c.self.inside.hand))) c.self.view_is (subst (λ (s : PageSet). KeepsPinned (set_of c.self.inside) s) (sym (seen c))
+    (unpin_pinned c.args.worker c.args.frame (set_of c.self.inside) (before_within c)))
+
+pub returns-clause-listed : goal.returns-clause-listed
+returns-clause-listed c =
+    subst (λ (s : PageSet). ListsNoMore s (set_of (with_back c.self.inside c.from-ways.result c.unpin.new.entries c.self.inside.hand))) c.self.view_is (subst (λ (s : PageSet). ListsNoMore (set_of c.self.inside) s) (sym (seen c))
+    (unpin_listed c.args.worker c.args.frame (set_of c.self.inside) (before_within c)))
