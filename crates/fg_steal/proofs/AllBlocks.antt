@@ -3,21 +3,21 @@ use Rattle.std.proofs.Common.{◌≡◌, ℕ, zero, suc, ◌+◌, ◌<◌, ◌�
 use Rattle.std.proofs.lemmas.Bool.{cases_lt, cases_eq}
 use Rattle.std.proofs.lemmas.List.Sorted.{IsPermutation-refl, IsPermutation-sym, IsPermutation-cons, IsPermutation-trans, IsPermutation-remove}
 use Rattle.std.proofs.lemmas.List.Sums.{sum_by-cons, sum_by-append, sum_by-remove}
-use Rattle.std.specs.List.{Contains, range_with_len, remove}
+use Rattle.std.specs.List.{Contains, range_with_len, remove, sum_by}
 use Rattle.std.specs.List.Sorted.{IsPermutation}
-use Rattle.fg_steal.specs.Claims.{is_draw_of, times_drawn, EachOnce, blocks_from, all_blocks}
-use Rattle.fg_steal.proofs.Times.{one_if, same_draw, other_part, other_block}
+use Rattle.fg_steal.specs.Claims.{is_draw_of, times_drawn, EachOnce, AtMostOnce, blocks_from, all_blocks}
+use Rattle.fg_steal.proofs.Times.{one_if, same_draw, other_part, other_block, times_more}
 
-abbrev hits : ℕ → ℕ → ℕ × ℕ → ℕ
+abbrev pub hits : ℕ → ℕ → ℕ × ℕ → ℕ
 hits part k draw = one_if (is_draw_of part k draw)
 
-times_cons : (part k : ℕ) (draw : ℕ × ℕ) (draws : List (ℕ × ℕ)) → times_drawn part k (draw ∷ draws) ≡ hits part k draw + times_drawn part k draws
+pub times_cons : (part k : ℕ) (draw : ℕ × ℕ) (draws : List (ℕ × ℕ)) → times_drawn part k (draw ∷ draws) ≡ hits part k draw + times_drawn part k draws
 times_cons part k draw draws = sum_by-cons (hits part k) draw draws
 
-times_append : (part k : ℕ) (xs ys : List (ℕ × ℕ)) → times_drawn part k (xs ++ ys) ≡ times_drawn part k xs + times_drawn part k ys
+pub times_append : (part k : ℕ) (xs ys : List (ℕ × ℕ)) → times_drawn part k (xs ++ ys) ≡ times_drawn part k xs + times_drawn part k ys
 times_append part k xs ys = sum_by-append (hits part k) xs ys
 
-contained : (part k : ℕ) (draws : List (ℕ × ℕ)) → 0 < times_drawn part k draws → Contains draws (part, k)
+pub contained : (part k : ℕ) (draws : List (ℕ × ℕ)) → 0 < times_drawn part k draws → Contains draws (part, k)
 contained part k [] some = absurd (omega arith)
 contained part k (draw ∷ draws) some = ⊎_elim
     (λ (same : part ≡ draw.0). ⊎_elim
@@ -41,6 +41,39 @@ same_times (x ∷ xs) ys same =
     let fewer : IsPermutation xs rest = same_times xs rest
     (λ part k. omega (arith, same part k, times_cons part k x xs, sum_by-remove (hits part k) ys found.0 x found.1, ap (hits part k) found.2)) in
     IsPermutation-trans _ _ _ (IsPermutation-cons x xs rest fewer) (IsPermutation-sym _ _ moved)
+
+-- a list that has no draw more often than another comes to no more, by whatever each counts
+pub sum_of_fewer : (f : ℕ × ℕ → ℕ) (xs ys : List (ℕ × ℕ)) → ((part k : ℕ) → times_drawn part k xs ≤ times_drawn part k ys) → sum_by f xs ≤ sum_by f ys
+sum_of_fewer f [] ys fewer = omega arith
+sum_of_fewer f (x ∷ xs) ys fewer =
+    let found = contained x.0 x.1 ys (omega (arith, fewer x.0 x.1, times_cons x.0 x.1 x xs, same_draw x.0 x.1 x.0 x.1 refl refl)) in
+    let rest = sum_of_fewer f xs (remove ys found.0)
+    (λ part k. omega (arith, fewer part k, times_cons part k x xs, sum_by-remove (hits part k) ys found.0 x found.1, ap (hits part k) found.2)) in
+    omega (arith, rest, sum_by-cons f x xs, sum_by-remove f ys found.0 x found.1, ap f found.2)
+
+-- draws that have each block at most once, as there are none, as one more comes that is new
+pub at_most_none : (counts : List ℕ) → AtMostOnce counts []
+at_most_none counts = record { once = λ part k. omega arith; nothing_else = λ part k over. refl }
+
+pub at_most_more : (counts : List ℕ) (draws : List (ℕ × ℕ)) (part k : ℕ) → AtMostOnce counts draws → k < slice_index counts part → times_drawn part k draws ≡ 0
+    → AtMostOnce counts (draws ++ (part, k) ∷ [])
+at_most_more counts draws part k most block new = record { once = once_more; nothing_else = inside }
+  where
+    once_more : (q j : ℕ) → times_drawn q j (draws ++ (part, k) ∷ []) ≤ 1
+    once_more q j = ⊎_elim
+        (λ (same : q ≡ part). ⊎_elim
+        (λ (level : k ≡ j). let none : times_drawn q j draws ≡ 0 = rw (same, sym level) new in omega (arith, times_more q j draws part k, same_draw q j part k same level, none))
+        (λ (differ : k ≢ j). omega (arith, times_more q j draws part k, other_block q j part k same differ, most.once q j))
+        (cases_eq k j))
+        (λ (differ : q ≢ part). omega (arith, times_more q j draws part k, other_part q j part k differ, most.once q j))
+        (cases_eq q part)
+
+    inside : (q j : ℕ) → slice_index counts q ≤ j → times_drawn q j (draws ++ (part, k) ∷ []) ≡ 0
+    inside q j over = ⊎_elim
+        (λ (same : q ≡ part). let level : k ≢ j = λ level. omega (arith, ap (slice_index counts) same) in
+        omega (arith, times_more q j draws part k, other_block q j part k same level, most.nothing_else q j over))
+        (λ (differ : q ≢ part). omega (arith, times_more q j draws part k, other_part q j part k differ, most.nothing_else q j over))
+        (cases_eq q part)
 
 abbrev row : ℕ → ℕ → ℕ → List (ℕ × ℕ)
 row part from count = map (λ k. (part, k)) (range_with_len from count)
@@ -90,4 +123,11 @@ pub all_blocks_drawn : (counts : List ℕ) (draws : List (ℕ × ℕ)) → EachO
 all_blocks_drawn counts draws each = same_times (all_blocks counts) draws (λ part k. ⊎_elim
     (λ (below : k < slice_index counts part). omega (arith, once counts 0 part part k (omega arith) below, each.once part k below))
     (λ (over : slice_index counts part ≤ k). omega (arith, not_there counts 0 part part k (omega arith) over, each.nothing_else part k over))
+    (cases_lt k (slice_index counts part)))
+
+-- draws that have each block at most once come to no more than all blocks
+pub within_all : (f : ℕ × ℕ → ℕ) (counts : List ℕ) (draws : List (ℕ × ℕ)) → AtMostOnce counts draws → sum_by f draws ≤ sum_by f (all_blocks counts)
+within_all f counts draws most = sum_of_fewer f draws (all_blocks counts) (λ part k. ⊎_elim
+    (λ (below : k < slice_index counts part). omega (arith, once counts 0 part part k (omega arith) below, most.once part k))
+    (λ (over : slice_index counts part ≤ k). omega (arith, most.nothing_else part k over))
     (cases_lt k (slice_index counts part)))

@@ -1,4 +1,4 @@
--- What contracts see of claims and of a seat, and that a list of draws has each block once.
+-- What contracts see of claims, and that a list of draws has each block once, or at most once.
 use Rattle.std.specs.Prelude.{◌≡◌, ℕ, ◌<◌, ◌≤◌, ◌&&◌, Bool, nat_eq, List, [], ◌∷◌, ◌++◌, ◌+◌, map, slice_index}
 use Rattle.std.specs.List.{count_by, range_with_len}
 use Rattle.atomic_table.specs.Seated.{TableId}
@@ -9,18 +9,8 @@ pub record ClaimsValue : Type 0 where
   pub counts : List ℕ
   pub seats : ℕ
 
--- which claims a seat is of, the blocks that it drew, each as its part and its number there, and the parts of which it was told that none is left
-pub record SeatValue : Type 0 where
-  pub claims : ClaimsValue
-  pub drawn : List (ℕ × ℕ)
-  pub told : List ℕ
-
 abbrev pub claims_of : TableId → List ℕ → ℕ → ClaimsValue
 claims_of table counts seats = record { table = table; counts = counts; seats = seats }
-
--- a seat that drew nothing and was told nothing
-abbrev pub fresh_seat : ClaimsValue → SeatValue
-fresh_seat claims = record { claims = claims; drawn = []; told = [] }
 
 abbrev pub is_draw_of : ℕ → ℕ → ℕ × ℕ → Bool
 is_draw_of part k draw = nat_eq draw.0 part && nat_eq draw.1 k
@@ -32,6 +22,11 @@ times_drawn part k draws = count_by (is_draw_of part k) draws
 -- each block of each part was drawn once, and nothing else
 pub record EachOnce (counts : List ℕ) (draws : List (ℕ × ℕ)) : Type 0 where
   pub once : (part k : ℕ) → k < slice_index counts part → times_drawn part k draws ≡ 1
+  pub nothing_else : (part k : ℕ) → slice_index counts part ≤ k → times_drawn part k draws ≡ 0
+
+-- each block of each part was drawn at most once, and nothing else
+pub record AtMostOnce (counts : List ℕ) (draws : List (ℕ × ℕ)) : Type 0 where
+  pub once : (part k : ℕ) → times_drawn part k draws ≤ 1
   pub nothing_else : (part k : ℕ) → slice_index counts part ≤ k → times_drawn part k draws ≡ 0
 
 -- all blocks, part after part from the one given, each as its part and its number there

@@ -1,2 +1,4 @@
 pub mod Claims
 pub mod Once
+pub mod Run
+pub mod Seat

@@ -1,8 +1,9 @@
 ghost use Rattle.std.specs.Prelude.{◌≡◌, ℕ, ◌<◌, ◌≤◌, [], ◌∷◌, ◌++◌, length, vec_len, IfOk};
 ghost use Rattle.std.specs.List.{All, Contains};
-ghost use Rattle.fg_steal.specs.Claims.{fresh_seat};
+ghost use Rattle.fg_steal.specs.Seat.{fresh_seat};
 
 use crate::{Claims, Seat};
+use fg_base::Memory;
 use std::alloc::{AllocError, Global};
 use std::process::Abort;
 use std::sync::Wait;
@@ -12,6 +13,8 @@ use std::thread;
 use std::thread::Threads;
 
 const PARTS: u32 = 64;
+
+const ROUNDS: u32 = 3;
 
 // A block is there.
 fn drawn<R: Abort>(rt: &R, claims: &Claims, seat: Seat, part: u32) -> (Seat, u32)
@@ -46,21 +49,71 @@ fn told_of_both<R: Abort>(rt: &R, claims: &Claims, seat: Seat) -> Seat
     next
 }
 
-#[test]
-fn two_seats_draw_a_part_of_two_blocks(rt: HostRuntime) -> Result<(), Fail> {
-    let counts = vec![in rt.alloc(); 2u32, 0]?;
-    let (claims, mut seats) = Claims::new(rt.alloc(), &counts, 2)?;
+// Claims over a part of so many blocks and an empty one, with two seats.
+fn two_seats<R: Abort>(rt: &R, alloc: Global, blocks: u32) -> Result<(Claims, Seat, Seat), Memory>
+    ensures claims { IfOk result (λ made. (length made.0.counts ≡ 2) × (made.0.seats ≡ 2)) }
+    ensures own { IfOk result (λ made. (made.1.claims ≡ made.0) × (made.2.claims ≡ made.0)) }
+    ensures fresh { IfOk result (λ made. (made.1.told ≡ []) × (made.2.told ≡ [])) }
+{
+    let counts = vec![in alloc; blocks, 0]?;
+    let (claims, mut seats) = Claims::new(alloc, &counts, 2)?;
     let (Some(second), Some(first)) = (seats.pop(), seats.pop()) else {
         panic!(rt; "two seats were made")
     };
+    Ok((claims, first, second))
+}
+
+fn back<R: Abort>(
+    rt: &R,
+    alloc: Global,
+    claims: Claims,
+    first: Seat,
+    second: Seat,
+) -> Result<(), AllocError>
+    requires claims { (length claims.counts ≡ 2) × (claims.seats ≡ 2) }
+    requires own { (first.claims ≡ claims) × (second.claims ≡ claims) }
+    requires fresh { (first.told ≡ []) × (second.told ≡ []) }
+{
+    let mut seats = Vec::new(alloc);
+    seats.push(told_of_both(rt, &claims, first))?;
+    seats.push(told_of_both(rt, &claims, second))?;
+    claims.close(seats);
+    Ok(())
+}
+
+#[test]
+fn two_seats_draw_two_blocks(rt: HostRuntime) -> Result<(), Fail> {
+    let (claims, first, second) = two_seats(&rt, rt.alloc(), 2)?;
     let (first, block) = drawn(&rt, &claims, first, 0);
     assert!(rt; block == 0);
     let (second, block) = drawn(&rt, &claims, second, 0);
     assert!(rt; block == 1);
-    let mut back = Vec::new(rt.alloc());
-    back.push(told_of_both(&rt, &claims, first))?;
-    back.push(told_of_both(&rt, &claims, second))?;
-    claims.close(back);
+    back(&rt, rt.alloc(), claims, first, second)?;
+    Ok(())
+}
+
+#[test]
+fn a_thief_begins_with_the_far_run(rt: HostRuntime) -> Result<(), Fail> {
+    let (claims, first, second) = two_seats(&rt, rt.alloc(), 3)?;
+    let (second, block) = drawn(&rt, &claims, second, 0);
+    assert!(rt; block == 2);
+    let (first, block) = drawn(&rt, &claims, first, 0);
+    assert!(rt; block == 0);
+    let (second, block) = drawn(&rt, &claims, second, 0);
+    assert!(rt; block == 1);
+    back(&rt, rt.alloc(), claims, first, second)?;
+    Ok(())
+}
+
+#[test]
+fn claims_may_end_early(rt: HostRuntime) -> Result<(), Fail> {
+    let (claims, first, second) = two_seats(&rt, rt.alloc(), 3)?;
+    let (first, block) = drawn(&rt, &claims, first, 0);
+    assert!(rt; block == 0);
+    let mut seats = Vec::new(rt.alloc());
+    seats.push(first)?;
+    seats.push(second)?;
+    claims.stop(seats);
     Ok(())
 }
 
@@ -86,7 +139,7 @@ fn spend<R: Wait>(rt: &R, claims: &Claims, mut seat: Seat, part: u32, hits: &[At
 }
 
 fn spend_all<R: Wait>(rt: &R, claims: &Claims, mut seat: Seat, hits: &[AtomicU64])
-    requires fresh { seat ≡ fresh_seat claims.now }
+    requires fresh { seat ≡ fresh_seat claims.now seat.number }
     requires parts { length claims.now.counts ≡ PARTS }
 {
     for part in 0..PARTS {
@@ -100,7 +153,7 @@ fn spend_in_threads<R: Threads + Wait + Sync>(
     seats: Vec<Seat>,
     hits: &[AtomicU64],
 ) -> Result<(), AllocError>
-    requires fresh { All (λ seat. seat ≡ fresh_seat claims.now) seats.items }
+    requires fresh { All (λ seat. seat ≡ fresh_seat claims.now seat.number) seats.items }
     requires parts { length claims.now.counts ≡ PARTS }
 {
     thread::map_vec(rt, seats, &|seat: Seat| spend_all(rt, claims, seat, hits))?;
@@ -115,15 +168,21 @@ fn part_counts(alloc: Global) -> Result<Vec<u32>, AllocError>
     Ok(counts)
 }
 
-#[test]
-fn eight_threads_draw_each_block_once(rt: HostRuntime) -> Result<(), Fail> {
-    let counts = part_counts(rt.alloc())?;
-    let (claims, seats) = Claims::new(rt.alloc(), &counts, 8)?;
-    let mut hits = Vec::new(rt.alloc());
+fn each_block_once<R: Threads + Wait + Sync>(rt: &R, alloc: Global) -> Result<bool, Memory> {
+    let counts = part_counts(alloc)?;
+    let (claims, seats) = Claims::new(alloc, &counts, 8)?;
+    let mut hits = Vec::new(alloc);
     for _ in 0..100_000 {
         hits.push(AtomicU64::new(0))?;
     }
-    spend_in_threads(&rt, &claims, seats, hits.as_slice())?;
-    assert!(rt; hits.iter().all(|hit| hit.load(Ordering::SeqCst) == 1));
+    spend_in_threads(rt, &claims, seats, hits.as_slice())?;
+    Ok(hits.iter().all(|hit| hit.load(Ordering::SeqCst) == 1))
+}
+
+#[test]
+fn eight_threads_draw_each_block_once(rt: HostRuntime) -> Result<(), Fail> {
+    for _ in 0..ROUNDS {
+        assert!(rt; each_block_once(&rt, rt.alloc())?);
+    }
     Ok(())
 }

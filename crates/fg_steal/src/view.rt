@@ -15,13 +15,13 @@ pub(crate) struct View {
     pub(crate) seats: u32,
     /// How many seats it stands for: one, none once it was joined to another, or more once others were joined to it.
     pub(crate) stands_for: u32,
-    /// The blocks that it drew, each with its part.
+    /// What it drew, each as a run and a place in it.
     pub(crate) drawn: LinkedList<(u32, u32)>,
-    /// The parts of which it was told that no block is left, as often as it was told.
-    pub(crate) told: LinkedList<u32>,
+    /// The runs that it was told are spent, the last one first, as often as it was told.
+    pub(crate) spent: LinkedList<u32>,
 }
 
-/// Each block is in one list of draws, once, as far as the word of its part has come.
+/// Each place of a run is in one list of draws, once, as far as the word of the run has come.
 pub(crate) struct Once;
 
 impl TableRule<(), View, Plan> for Once {
@@ -32,7 +32,7 @@ impl TableRule<(), View, Plan> for Once {
     ghost first = { λ plan. opening_view plan.counts.items plan.seats };
 }
 
-/// A fetch-and-add on a part's word.
+/// A fetch-and-add on a run's word.
 pub(crate) struct Draw;
 
 impl Play<(), View> for Draw {

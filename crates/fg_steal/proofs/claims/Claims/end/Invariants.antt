@@ -1,6 +1,7 @@
-use Rattle.std.proofs.Common.{◌≡◌, ℕ, ◌+◌, ◌<◌, [], ◌++◌, length, vec_len}
+use Rattle.std.proofs.Common.{◌≡◌, ℕ, ◌+◌, ◌<◌, [], ◌++◌, length, map, vec_len}
 use Rattle.std.specs.List.{All, Contains, flat_map}
-use Rattle.fg_steal.proofs.claims.Claims.close.Given as goal
+use Rattle.fg_steal.specs.Run.{run_lengths, block_at}
+use Rattle.fg_steal.proofs.claims.Claims.end.Given as goal
 
 abbrev pub invariant-loop-seat : goal.invariant-loop-seat
 invariant-loop-seat l = record {
@@ -9,8 +10,8 @@ invariant-loop-seat l = record {
   stands : l.place.me.0.stands_for + vec_len l.seats ≡ l.fn.self.seats;
   some_seat : 0 < l.place.me.0.stands_for;
   holds_nothing : l.place.me.1 ≡ [];
-  drawn : flat_map (λ seat. seat.drawn) l.seats.items ++ l.place.me.0.drawn ≡ flat_map (λ seat. seat.drawn) l.fn.seats.items;
-  told : (part : ℕ) → part < length l.fn.self.counts → Contains l.place.me.0.told part;
+  drawn : flat_map (λ seat. seat.drawn) l.seats.items ++ map (block_at l.fn.self.counts) l.place.me.0.drawn ≡ flat_map (λ seat. seat.drawn) l.fn.seats.items;
+  told : All (λ seat. (part : ℕ) → part < length l.fn.self.counts → Contains seat.told part) l.fn.seats.items → (run : ℕ) → run < length (run_lengths l.fn.self.counts) → Contains l.place.me.0.spent run;
   own : All (λ seat. seat.claims ≡ l.fn.self) l.seats.items;
 }
 
