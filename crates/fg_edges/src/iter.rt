@@ -1,0 +1,7 @@
+//! The two iterators.
+
+mod entries;
+mod segments;
+
+pub use entries::Entries;
+pub use segments::Segments;
