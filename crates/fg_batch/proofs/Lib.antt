@@ -1,0 +1,5 @@
+pub mod BitsLaws
+pub mod MailsLaws
+pub mod HeldLaws
+pub mod InboxLaws
+pub mod FoldLaws
