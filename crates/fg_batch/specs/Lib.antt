@@ -4,3 +4,4 @@ pub mod Bits
 pub mod Lanes
 pub mod Inbox
 pub mod Sum
+pub mod Outbox

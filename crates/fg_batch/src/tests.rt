@@ -92,3 +92,22 @@ fn a_sum_of_two_batches_stops(rt: HostRuntime) -> Result<(), Fail> {
     }
     Ok(())
 }
+
+#[test]
+fn an_outbox_gives_the_batches_of_a_block(rt: HostRuntime) -> Result<(), Fail> {
+    let alloc = rt.alloc();
+    let mut outbox = Outbox::new(alloc, PartMap::new(4, 0, 2))?;
+    outbox.reserve(2)?;
+    outbox.send(3, u64::MAX);
+    outbox.send(0, 1);
+    let batches = outbox.into_batches(alloc, 7)?;
+    assert_eq!(rt; batches.len(), 2);
+    let rows: [(u32, u32, u64); 2] = [(0, 0, 1), (1, 3, u64::MAX)];
+    for (batch, (part, target, message)) in batches.iter().zip(rows) {
+        assert_eq!(rt; (batch.block, batch.part, batch.lane), (7, part, 0));
+        let mut mails = batch.mails.iter();
+        assert_eq!(rt; mails.next(), Some(Mail { target, message }));
+    }
+    assert!(rt; outbox.into_batches(alloc, 8)?.is_empty());
+    Ok(())
+}

@@ -1,0 +1,11 @@
+use Rattle.std.proofs.Common.{◌≡◌, ℕ, ◌<◌, ◌≤◌, length}
+use Rattle.fg_batch.specs.Outbox.{lane_at}
+use Rattle.fg_batch.proofs.outbox.reserve_all.Given as goal
+
+abbrev pub invariant-loop-at : goal.invariant-loop-at
+invariant-loop-at l = record {
+  length : length l.lanes.items ≡ length l.fn.lanes.items;
+  items : (k : ℕ) → (lane_at l.lanes.items k).items ≡ (lane_at l.fn.lanes.items k).items;
+  done : (k : ℕ) → k < l.at → l.count ≤ (lane_at l.lanes.items k).room;
+  kept : (k : ℕ) → (lane_at l.fn.lanes.items k).room ≤ (lane_at l.lanes.items k).room;
+}
