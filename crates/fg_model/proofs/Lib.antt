@@ -1,5 +1,11 @@
+pub mod AfterLemmas
+pub mod Each
 pub mod IterationLemmas
+pub mod Keeps
+pub mod LeastFolds
 pub mod MailLemmas
+pub mod Mirrors
 pub mod PlainLemmas
 pub mod RunLemmas
 pub mod StandLemmas
+pub mod Totals

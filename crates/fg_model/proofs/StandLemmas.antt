@@ -5,7 +5,7 @@ use Rattle.std.specs.List.{filter_map, cons_option}
 use Rattle.std.proofs.lemmas.Bool.Decides.{nat_tests}
 use Rattle.fg_base.specs.declared.plain.VState.{VState}
 use Rattle.fg_model.specs.declared.graph.Graph.{Graph}
-use Rattle.fg_model.specs.Iteration.{AreStates}
+use Rattle.fg_model.specs.Iteration.{AreStates, state_at}
 use Rattle.fg_model.specs.Program.{Rules}
 use Rattle.fg_model.specs.Run.{bid_above, is_some_active, least, least_bid_above, lesser, stand_from}
 use Rattle.fg_model.specs.declared.stand.Stand.TheVariants.{Begins, Rests}
@@ -163,3 +163,27 @@ stand-rises left rises P phase bid states is idle some = rw (is, idle, some) ref
 -- states of a graph, for a graph and states that are the same
 pub are_moved : (graph moved : Graph) (states moved_states : List VState) → moved ≡ graph → moved_states ≡ states → AreStates graph.n states → AreStates moved.n moved_states
 are_moved graph moved states moved_states same_graph same_states are = rw (same_graph, same_states) are
+
+-- the least bid is at most each bid above the phase
+abbrev pub LowAt : Option ℕ → ℕ → Type 0
+LowAt None x = ⊥
+LowAt (Some y) x = y ≤ x
+
+low_here : (x : ℕ) (one other : Option ℕ) → one ≡ Some x → LowAt (lesser one other) x
+low_here x None other is = absurd (cc)
+low_here x (Some y) None is = let e : y ≡ x = cc in omega (arith, e)
+low_here x (Some y) (Some z) is = let e : y ≡ x = cc in omega (arith, e)
+
+low_there : (x : ℕ) (one other : Option ℕ) → LowAt other x → LowAt (lesser one other) x
+low_there x None other low = low
+low_there x (Some y) None low = absurd low
+low_there x (Some y) (Some z) low = omega (arith, low)
+
+pub least_low : (P : Rules) (phase x v : ℕ) (states : List VState) → v < length states → bid_above phase (P.bid (state_at states v)) ≡ Some x → LowAt (least_bid_above P phase states) x
+least_low P phase x v [] below is = absurd (omega arith)
+least_low P phase x zero (s ∷ states) below is =
+    let Is : Option ℕ → Type 0 = λ o. LowAt o x in
+    subst Is (sym (least_bid_above-cons P phase s states)) (low_here x (bid_above phase (P.bid s)) (least_bid_above P phase states) is)
+least_low P phase x (suc v) (s ∷ states) below is =
+    let Is : Option ℕ → Type 0 = λ o. LowAt o x in
+    subst Is (sym (least_bid_above-cons P phase s states)) (low_there x (bid_above phase (P.bid s)) (least_bid_above P phase states) (least_low P phase x v states (omega arith) is))

@@ -9,8 +9,8 @@ use Rattle.fg_base.specs.declared.plain.VState.{VState}
 
 -- what a program does: `need` are the lists that a run goes over; `init v outs ins` is the opening state from the two
 -- degrees; `begin phase v s` is the vertex's own new state and the carry; `edge carry dir entry` is the message to the
--- entry's target; `receive s m` folds one message in; `combine x y` is one message in place of two; `wake phase s` says whether the vertex is active; `bid s` is the
--- phase that the vertex waits for; `show s` is what is printed of it
+-- entry's target; `receive s m` folds one message in; `combine x y` is one message in place of two; `wake phase s` says
+-- whether the vertex is active; `bid s` is the phase that the vertex waits for; `show s` is what is printed of it
 pub record Rules : Type 0 where
   pub need : Need
   pub init : ℕ → ℕ → ℕ → VState

@@ -9,7 +9,13 @@ use Rattle.fg_model.specs.Run.{Finished}
 
 -- the line of a finished iteration
 abbrev pub line_of : Finished → IterLine
-line_of iteration = record { number = iteration.number; phase = iteration.begun.phase; active = length iteration.begun.active; messages = iteration.begun.messages }
+line_of iteration =
+    record {
+      number = iteration.number;
+      phase = iteration.begun.phase;
+      active = length iteration.begun.active;
+      messages = iteration.begun.messages;
+    }
 
 -- the line of a finished iteration as the code counts it
 abbrev pub line_at : ℕ → ℕ → Counts → IterLine

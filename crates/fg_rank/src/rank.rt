@@ -2,6 +2,7 @@
 
 ghost use Rattle.std.specs.Prelude.{◌≡◌};
 ghost use Rattle.fg_rank.specs.Rank.{rank, share_of};
+ghost use Rattle.fg_rank.specs.RankSums.{StaysBounded};
 
 use fg_base::{Dir, Entry, Need, Tally, VState, Value};
 use fg_model::Program;
@@ -85,6 +86,15 @@ impl Program for Rank {
     fn show(&self, s: VState) -> Value {
         Value::Two(s.a, s.b)
     }
+}
+
+impl Rank {
+    /// What the ranks of a run come to: at its end, settled or stopped, on any graph, three times all ranks and twenty
+    /// times all that wasn't sent on are together at most three units for each vertex. A call does nothing when it runs;
+    /// it gives its caller this law.
+    pub fn ranks_stay_bounded(self)
+        ensures { StaysBounded self.cut }
+    {}
 }
 
 #[cfg(test)]

@@ -1,4 +1,3 @@
-pub mod Each
 pub mod Settles
 pub mod Spread
 pub mod SpreadStep

@@ -8,7 +8,7 @@ use Rattle.fg_model.specs.declared.stand.Stand.TheVariants.{Begins, Rests}
 use Rattle.fg_model.specs.Iteration.{after, first_bad}
 use Rattle.fg_model.specs.Program.{Rules}
 use Rattle.fg_model.specs.Run.{Ending, Run, from_begun, from_last_stand, from_stand, is_some_active, least_bid_above, led, run_from, stand, stand_at, stand_from}
-use Rattle.fg_walks.proofs.Each.{Each}
+use Rattle.fg_model.proofs.Each.{Each}
 
 -- a fact of so many iterations holds of these states, and no vertex is active
 pub record HoldsAtRest (P : Rules) (Kept : ℕ → List VState → Type 0) (limit : ℕ) (states : List VState) : Type 0 where

@@ -1,5 +1,5 @@
 -- What each iteration keeps of numbers that spread along out-entries.
-use Rattle.std.proofs.Common.{◌≡◌, ℕ, ◌+◌, ◌*◌, ◌-◌, ◌<◌, ◌≤◌, ◌^◌, ◌⊎◌, inl, inr, Bool, true, List, [], ◌∷◌, ◌++◌, length, min, refl, sym, ap, ◌∙◌, subst, arith}
+use Rattle.std.proofs.Common.{◌≡◌, ℕ, ◌+◌, ◌*◌, ◌-◌, ◌<◌, ◌≤◌, ◌^◌, ◌⊎◌, inl, inr, Bool, List, [], ◌∷◌, ◌++◌, length, min, refl, sym, ap, ◌∙◌, subst, arith}
 use Rattle.std.specs.Prelude.{Contains, fold, nat_lt, sum_by}
 use Rattle.std.proofs.lemmas.Bool.{cases_Bool, cases_lt}
 use Rattle.std.proofs.lemmas.List.{get_or_past}
@@ -8,14 +8,15 @@ use Rattle.fg_base.specs.declared.plain.Dir.{Dir}
 use Rattle.fg_base.specs.declared.plain.Entry.{Entry}
 use Rattle.fg_base.specs.declared.plain.VState.{VState}
 use Rattle.fg_model.specs.declared.graph.Graph.{Graph}
-use Rattle.fg_model.specs.declared.mail.Mail.{Mail}
 use Rattle.fg_model.specs.Graph.{row}
 use Rattle.fg_model.specs.Iteration.{after, mail, own_state, sent_to, state_at}
-use Rattle.fg_model.specs.VertexRun.{message_along, ran}
-use Rattle.fg_walks.specs.Bfs.{none}
+use Rattle.fg_model.specs.VertexRun.{message_along}
+use Rattle.fg_walks.specs.Spread.{none, spread}
 use Rattle.fg_walks.specs.Walks.{IsWalk}
-use Rattle.fg_walks.proofs.Each.{Each, each-map, each_at, each_mapped, each_of, each_passing, each_weaker, passing_each}
-use Rattle.fg_walks.proofs.Spread.{after_at, each_sent, fold_each, fold_from, fold_least, fold_same, length-after, lowered, own_number, own_resting, own_sent, sent_each, spread}
+use Rattle.fg_model.proofs.Each.{Each, each-map, each_at, each_mapped, each_of, each_weaker}
+use Rattle.fg_model.proofs.AfterLemmas.{after_at, each_sent, length-after, mail_down, mail_up, sent_each}
+use Rattle.fg_model.proofs.LeastFolds.{fold_each, fold_from, fold_least, fold_same, lowered}
+use Rattle.fg_walks.proofs.Spread.{own_number, own_resting, own_sent}
 
 -- the greatest cost of an entry
 abbrev pub top : ℕ
@@ -73,22 +74,9 @@ message_reached cost outs source limit v x entry has low (inr walk) = elim (case
   | inr past ↦ inl (omega arith)
 ]
 
--- the messages of one vertex
-abbrev pub sends : (Entry → ℕ) → ℕ → Graph → ℕ → List VState → ℕ → List Mail
-sends cost source graph phase states v = (ran (spread cost source) graph phase v (state_at states v)).messages
-
+-- whether a vertex has more to send
 abbrev pub is_awake : List VState → ℕ → Bool
 is_awake states v = nat_lt (state_at states v).a (state_at states v).b
-
-mail_up : (cost : Entry → ℕ) (graph : Graph) (source phase : ℕ) (states : List VState) (P : Mail → Type 0) → ((v : ℕ) → v < length states → is_awake states v ≡ true → Each P (sends cost source graph phase states v))
-    → Each P (mail (spread cost source) graph phase states)
-unfolding mail
-mail_up cost graph source phase states P of = each_passing P (sends cost source graph phase states) (is_awake states) 0 (length states) (λ v below awake. of v (omega arith) awake)
-
-mail_down : (cost : Entry → ℕ) (graph : Graph) (source phase : ℕ) (states : List VState) (P : Mail → Type 0) → Each P (mail (spread cost source) graph phase states)
-    → (v : ℕ) → v < length states → is_awake states v ≡ true → Each P (sends cost source graph phase states v)
-unfolding mail
-mail_down cost graph source phase states P each v below awake = passing_each P (sends cost source graph phase states) (is_awake states) 0 (length states) v each (omega arith) (omega arith) awake
 
 -- the number after an iteration
 after_number : (cost : Entry → ℕ) (graph : Graph) (source phase v : ℕ) (states : List VState) → v < length states
@@ -130,7 +118,7 @@ reached_next cost graph source number phase v states costs is below =
     let messages = mail (spread cost source) graph phase states in
     let Is : ℕ → ℕ → Type 0 = λ w x. Reached cost graph.outs source (number * top + top) w x in
     let sent : Each (λ message. Is message.target message.message) messages =
-    mail_up cost graph source phase states (λ message. Is message.target message.message) (λ u u_below awake.
+    mail_up (spread cost source) graph phase states (λ message. Is message.target message.message) (λ u u_below awake.
     each-map (λ message. Is message.target message.message) (message_along (spread cost source) (at states u) Dir.Out) (row graph.outs u)
     (each_of (λ entry. Is entry.target (min (at states u + cost entry) none)) (row graph.outs u) (λ entry has.
     message_reached cost graph.outs source (number * top) u (at states u) entry has (costs.low u entry has) (is.reached u (omega (arith, is.counted)))))) in
@@ -160,7 +148,7 @@ passed_next cost graph source number phase v states is below =
     let Is : ℕ → Type 0 = λ b. Passed cost graph.outs next v b in
     elim (cases_Bool (is_awake states v)) [
       | inl awake ↦
-          let all = mail_down cost graph source phase states (λ message. at next message.target ≤ message.message) (heard cost graph source phase states) v v_below awake in
+          let all = mail_down (spread cost source) graph phase states (λ message. at next message.target ≤ message.message) (heard cost graph source phase states) v v_below awake in
           let along = each_mapped (λ message. at next message.target ≤ message.message) (message_along (spread cost source) (at states v) Dir.Out) (row graph.outs v) all in
           let low = each_weaker (λ entry. at next entry.target ≤ min (at states v + cost entry) none) (λ entry. at next entry.target ≤ at states v + cost entry) (λ entry h. omega (arith, h)) (row graph.outs v) along in
           subst Is (sym (sent ∙ own_sent cost source phase v (state_at states v) awake)) (inr low)

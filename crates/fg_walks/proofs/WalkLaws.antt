@@ -6,7 +6,6 @@ use Rattle.std.proofs.lemmas.Bool.{cases_Bool, cases_lt, both_ways, eq-eqb, eqb-
 use Rattle.std.proofs.lemmas.List.{get_or_past}
 use Rattle.std.proofs.lemmas.List.Elements.{All-get_or, All-contains}
 use Rattle.std.proofs.lemmas.List.Folds.{list_any_at}
-use Rattle.std.proofs.lemmas.List.FromFn.{get_or-map-range_with_len, length-map-range_with_len}
 use Rattle.std.proofs.lemmas.List.Sums.{sum_by-append}
 use Rattle.fg_base.specs.declared.plain.Entry.{Entry}
 use Rattle.fg_base.specs.declared.plain.Value.TheVariants.{Absent, One}
@@ -17,12 +16,14 @@ use Rattle.fg_model.specs.Graph.{IsEntryOf, IsWithinLimits, row}
 use Rattle.fg_model.specs.Iteration.{state_at}
 use Rattle.fg_model.specs.Program.{Rules}
 use Rattle.fg_model.specs.Run.{Ending, Finished, answer_at, answer_of, opening_states, run, run_from}
-use Rattle.fg_walks.specs.Bfs.{bfs, none}
+use Rattle.fg_walks.specs.Bfs.{bfs}
+use Rattle.fg_walks.specs.Spread.{none, spread}
 use Rattle.fg_walks.specs.Sssp.{sssp}
 use Rattle.fg_walks.specs.Walks.{AreSumsWhole, MakesWholeSums, AreLeastValues, GivesLeastValues, IsLeast, IsLeastValue, IsWalk, LevelsAreLeastLengths, ValuesAreLeastWeights, weight}
-use Rattle.fg_walks.proofs.Each.{all_from_each, each_at}
+use Rattle.fg_model.proofs.AfterLemmas.{length-opening, opening_at}
+use Rattle.fg_model.proofs.Each.{all_from_each, each_at}
 use Rattle.fg_walks.proofs.Settles.{HoldsAtRest, finishes, settles}
-use Rattle.fg_walks.proofs.Spread.{bfs_spreads, spread, sssp_spreads}
+use Rattle.fg_walks.proofs.Spread.{bfs_spreads, sssp_spreads}
 use Rattle.fg_walks.proofs.SpreadStep.{AreCosts, IsSpread, Passed, Reached, at, is_awake, past_number, spread_next, top}
 
 -- what is no vertex has no entries
@@ -35,16 +36,6 @@ no_entry rows v entry past has =
     omega arith
 
 -- the opening states
-opening_at : (cost : Entry → ℕ) (graph : Graph) (source v : ℕ) → v < graph.n
-    → state_at (opening_states (spread cost source) graph) v ≡ record { a = (if v == source then 0 else none); b = none; c = 0 }
-unfolding opening_states
-opening_at cost graph source v below =
-    get_or-map-range_with_len (λ u. (spread cost source).init u (length (row graph.outs u)) (length (row graph.ins u))) 0 graph.n v v (record { a = 0; b = 0; c = 0 }) below (omega arith)
-
-length-opening : (P : Rules) (graph : Graph) → length (opening_states P graph) ≡ graph.n
-unfolding opening_states
-length-opening P graph = length-map-range_with_len (λ u. P.init u (length (row graph.outs u)) (length (row graph.ins u))) 0 graph.n
-
 opened_at : (cost : Entry → ℕ) (outs : List (List Entry)) (source v : ℕ) (is_source : Bool) → (v == source) ≡ is_source → Reached cost outs source 0 v (if is_source then 0 else none)
 opened_at cost outs source v true is = inr (record { entries = []; is_walk = sym (eqb-true v source is); costs = refl; within = omega arith })
 opened_at cost outs source v false is = inl refl
@@ -56,11 +47,11 @@ spread_opens cost graph source =
       counted = length-opening (spread cost source) graph;
       reached = λ v below.
           let Is : ℕ → Type 0 = λ x. Reached cost graph.outs source 0 v x in
-          subst Is (sym (ap (λ (s : VState). s.a) (opening_at cost graph source v below))) (opened_at cost graph.outs source v (v == source) refl);
-      passed = λ v below. inl (ap (λ (s : VState). s.b) (opening_at cost graph source v below));
+          subst Is (sym (ap (λ (s : VState). s.a) (opening_at (spread cost source) graph v below))) (opened_at cost graph.outs source v (v == source) refl);
+      passed = λ v below. inl (ap (λ (s : VState). s.b) (opening_at (spread cost source) graph v below));
       opened = elim (cases_lt source graph.n) [
         | inl below ↦
-            let zero_there : at states source ≡ 0 = ap (λ (s : VState). s.a) (opening_at cost graph source source below) ∙ (rw (eq-eqb source source refl) refl) in
+            let zero_there : at states source ≡ 0 = ap (λ (s : VState). s.a) (opening_at (spread cost source) graph source below) ∙ (rw (eq-eqb source source refl) refl) in
             omega (arith, zero_there)
         | inr past ↦ omega (arith, past_number states source (omega (arith, length-opening (spread cost source) graph)))
       ];

@@ -1,5 +1,5 @@
+pub mod Spread
+pub mod SpreadLaws
 pub mod Bfs
-pub mod BfsLaws
 pub mod Sssp
-pub mod SsspLaws
 pub mod Walks

@@ -10,7 +10,8 @@ use Rattle.fg_model.specs.Graph.{IsWithinLimits, row}
 use Rattle.fg_model.specs.Iteration.{state_at}
 use Rattle.fg_model.specs.Program.{Rules}
 use Rattle.fg_model.specs.Run.{answer_of, run}
-use Rattle.fg_walks.specs.Bfs.{bfs, none}
+use Rattle.fg_walks.specs.Bfs.{bfs}
+use Rattle.fg_walks.specs.Spread.{none}
 use Rattle.fg_walks.specs.Sssp.{sssp}
 
 -- a walk from u to v: each entry is one of the list of the vertex where the one before it ended

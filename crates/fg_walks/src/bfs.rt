@@ -18,7 +18,7 @@ pub struct Bfs {
 
 #[tactic(auto, unfolding(crate::specs::Bfs::bfs))]
 impl Program for Bfs {
-    ghost use Rattle.fg_walks.specs.BfsLaws.{bfs_is_lawful};
+    ghost use Rattle.fg_walks.specs.SpreadLaws.{bfs_is_lawful};
 
     ghost rules = { λ program. bfs program.source };
 

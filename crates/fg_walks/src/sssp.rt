@@ -18,7 +18,7 @@ pub struct Sssp {
 
 #[tactic(auto, unfolding(crate::specs::Sssp::sssp))]
 impl Program for Sssp {
-    ghost use Rattle.fg_walks.specs.SsspLaws.{sssp_is_lawful};
+    ghost use Rattle.fg_walks.specs.SpreadLaws.{sssp_is_lawful};
 
     ghost rules = { λ program. sssp program.source };
 
