@@ -2,6 +2,7 @@
 use Rattle.std.specs.Prelude.{◌≡◌, ℕ, ◌<◌, ◌≤◌, List, [], ◌∷◌, ◌++◌, ℤ, pos, ◌+ℤ◌, ◌-ℤ◌, ◌≤ℤ◌}
 use mathlib.Core.Option.{some}
 use lib.ListN.{get_elem?}
+use Rattle.atomic_table.specs.Seated.{TableId}
 use Rattle.atomic_table.specs.Table.{State, Step, Me}
 use Rattle.fg_books.specs.declared.account.Plan.{Plan}
 use Rattle.fg_books.specs.declared.account.Posting.{Posting}
@@ -21,6 +22,10 @@ pub record Balanced (plan : Plan) (views : List Account) : Type 0 where
 
 abbrev pub Keeps : Plan → State (Unit {0}) Account → Type 0
 Keeps plan s = Balanced plan s.views
+
+-- a seat's table is this one, which has a word
+abbrev pub IsOn : TableId → TableId → Type 0
+IsOn table own = (own ≡ table) × (0 < table.words)
 
 abbrev pub posting : ℕ → ℕ → ℤ → ℤ → Posting
 posting first count parts amount = record { first = first; count = count; parts = parts; amount = amount }

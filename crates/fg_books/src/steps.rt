@@ -1,7 +1,7 @@
 //! The rule of the ledgers, and its three kinds of step: a cut, a join, and a step of one account that changes nothing.
 ghost use Rattle.std.specs.Prelude.{◌≡◌, ◌<◌, []};
 ghost use Rattle.atomic_table.specs.Table.{Splits};
-ghost use Rattle.fg_books.specs.Rules.{Keeps};
+ghost use Rattle.fg_books.specs.Rules.{IsOn, Keeps};
 
 use crate::account::{Account, Plan};
 use atomic_table::{Join, Play, Seat, Shared, Split, TableRule};
@@ -73,7 +73,7 @@ pub(crate) fn split_as<H: Halves, A>(
     seat: &mut Seat<(), Account>,
     _about: &A,
 ) -> Seat<(), Account>
-    requires { (seat.old.table_id ≡ ledgers.now.table_id) × (0 < ledgers.now.table_id.words) × Splits (Keeps ledgers.now.key) seat.old.id seat.old.me.0 H.left H.right }
+    requires { IsOn ledgers.now.table_id seat.old.table_id × Splits (Keeps ledgers.now.key) seat.old.id seat.old.me.0 H.left H.right }
     ensures kept { (seat.new.table_id ≡ seat.old.table_id) × (seat.new.me ≡ (H.left, seat.old.me.1)) }
     ensures new { (result.table_id ≡ seat.old.table_id) × (result.me ≡ (H.right, [])) }
 {

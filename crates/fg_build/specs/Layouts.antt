@@ -35,6 +35,13 @@ layout_of plan image drive =
 abbrev pub layout_pages : Plan → List ℕ → ℕ → ℕ
 layout_pages plan image drive = 1 + length (pages_on drive plan.drives plan.unit (length image / 4096))
 
+-- both by an image's label
+abbrev pub layout_by : Label → List ℕ → ℕ → List ℕ
+layout_by label = layout_of (plan_by label)
+
+abbrev pub layout_pages_by : Label → List ℕ → ℕ → ℕ
+layout_pages_by label = layout_pages (plan_by label)
+
 -- what a drive holds of the image of these edges
 unfoldable pub drive_bytes : Plan → EdgeList → ℕ → List ℕ
 drive_bytes plan edges drive = layout_of plan (image_bytes edges) drive

@@ -4,7 +4,7 @@ ghost use Rattle.std.specs.Prelude.{◌≡◌, ◌<◌, ◌≤◌, ◌/◌, ◌+
 ghost use Rattle.fg_base.specs.declared.limits.TheConstants.{MAX_DRIVES, MAX_IMAGE_PAGES, PAGE_BYTES};
 ghost use Rattle.fg_build.specs.Appending.{Appends, RoomyKeptFor, on_drive, one_on, pages_dealt, pages_dealt_count};
 ghost use Rattle.fg_build.specs.Appends.{AppendsInOrder, append_of, image_appends, label_appends, page_appends};
-ghost use Rattle.fg_build.specs.Layouts.{layout_of, layout_pages, plan_by};
+ghost use Rattle.fg_build.specs.Layouts.{layout_by, layout_pages_by, plan_by};
 ghost use Rattle.fg_outside.specs.Drives.{EachSame};
 ghost use Rattle.fg_stripe.specs.Label.{label_bytes};
 
@@ -87,10 +87,10 @@ pub(crate) fn append_image<D: Drive>(
     requires pages { label.now.pages ≡ length image.now / 4096 }
     requires few { label.now.pages ≤ MAX_IMAGE_PAGES }
 
-    ensures appends { Appends D.held D.room D.faults (layout_of (plan_by label.now) image.now) (layout_pages (plan_by label.now) image.now) drives.old drives.new result }
+    ensures appends { Appends D.held D.room D.faults (layout_by label.now image.now) (layout_pages_by label.now image.now) drives.old drives.new result }
     ensures in_order { AppendsInOrder D.held (image_appends (plan_by label.now) image.now) drives.old drives.new result }
     ensures log { EachSame D.log drives.old drives.new }
-    ensures sure { RoomyKeptFor D.room D.faults (layout_pages (plan_by label.now) image.now) drives.old drives.new }
+    ensures sure { RoomyKeptFor D.room D.faults (layout_pages_by label.now image.now) drives.old drives.new }
 {
     if let Err(refusal) = append_labels(drives, label) {
         return Err(refusal);

@@ -23,11 +23,12 @@ impl<'a, V: Fit> Held<'a, V> {
     ghost use mir.Syntax.{named};
     ghost use Rattle.std.specs.Prelude.{[]};
     ghost use Rattle.std.specs.Borrow.{Lends, sem};
+    ghost use Rattle.fg_cell.specs.Lent.{holding};
     ghost use Rattle.fg_cell.specs.contracts.held.Held.{the_row};
 
     /// The value. What is left behind the reference has to fit the name only once it is given back.
     pub fn get(&mut self) -> &mut V
-        ensures* writes_back { sem 𝓛 (Lends (the_row (record { mir = named 0; lft = [] }) V.row V.Name.row V.Fit) V.row self.entry result (λ w. record self.old { value = w })) }
+        ensures* writes_back { sem 𝓛 (Lends (the_row (record { mir = named 0; lft = [] }) V.row V.Name.row V.Fit) V.row self.entry result (holding self.old)) }
         ensures value { result.now ≡ self.old.value }
     {
         &mut self.value

@@ -74,7 +74,8 @@ fn longs_in(low: &[u8]) -> usize
     low.iter().filter(|byte| **byte == LONG_BYTE).count()
 }
 
-/// Reads the degrees of vertices 0, 1, 2 and so on, into memory that is taken before. Each byte and each pair is met once: behind a fault the bytes are only counted.
+/// Reads the degrees of vertices 0, 1, 2 and so on, into memory that is taken before. Each byte and each pair is met once:
+/// behind a fault the bytes are only counted.
 pub(crate) fn read_low(alloc: Global, low: &[u8], pairs: &[u8]) -> Result<LowRead, Memory>
     requires { length low.now ≤ 2 ^ 24 }
     ensures longs { IfOk result (λ read. read.longs ≡ longs_in low.now) }

@@ -1,6 +1,7 @@
 //! How a run is taken out of a queue: one pass finds the oldest load of each local page of the window, one closes the gaps.
 
-ghost use Rattle.std.specs.Prelude.{◌≡◌, ℕ, ◌+◌, ◌-◌, ◌<◌, ◌≤◌, ◌↔◌, IsTrue, true, false, Some, None, if◌then◌else◌, length, slice_index_or, find, vec_len, vec_capacity};
+ghost use Rattle.std.specs.Prelude.{◌≡◌, ℕ, ◌+◌, ◌-◌, ◌<◌, ◌≤◌, ◌↔◌, IsTrue, true, false, Some, None, if◌then◌else◌};
+ghost use Rattle.std.specs.Prelude.{length, slice_index_or, find, vec_len, vec_capacity};
 ghost use Rattle.std.specs.Option.{option_or};
 ghost use Rattle.fg_queue.specs.QueueStep.{is_of, run_from, rest_after};
 

@@ -5,8 +5,7 @@ use Rattle.fg_books.proofs.books.Books.cut.Goals as goal
 
 pub split_as-other-requires : goal.split_as-other-requires
 split_as-other-requires c = (
-  c.into_seat-seat.ensures.0 ∙ table_from _ c.lot.inside.badge.views _ c.lot.view_is _ (c.requires.own ∙ sym c.self.view_is),
-  omega (arith, c.self.invariant),
+  (c.into_seat-seat.ensures.0 ∙ table_from _ c.lot.inside.badge.views _ c.lot.view_is _ (c.requires.own ∙ sym c.self.view_is), omega (arith, c.self.invariant)),
   cut_splits _ _ _ _
       (ap (holding_of c.lot.inside.badge.table_id) (sym c.into_seat-seat.ensures.2) ∙ c.lot.view_is) (c.requires.own ∙ sym c.self.view_is)
       (subst IsHeld c.into_seat-seat.ensures.2 c.lot.invariant) c.args.first c.args.count c.args.parts c.requires.parts c.requires.amounts _,

@@ -25,8 +25,7 @@ load-requires c = (
 
 pub split_as-second-requires : goal.split_as-second-requires
 split_as-second-requires c = (
-  c.load.ensures.0 ∙ c.united-seat.ensures.own,
-  omega (arith, c.self.invariant),
+  (c.load.ensures.0 ∙ c.united-seat.ensures.own, omega (arith, c.self.invariant)),
   splits_of _ _ _ _ _ _ (ap (λ me. me.0) c.load.ensures.2.0 ∙ (joined_copies _ _ _ _ _ c.of.ensures c.of-2.ensures (ap (λ me. me.0) c.united-seat.ensures.joined)))
       (back _ c.of.result.value.table_id c.of-2.result.value.table_id c.of.result.value.views c.of-2.result.value.views _ _
       (copy_is _ _ (c.of.ensures ∙ c.replace-first.ensures.value) _ c.one.view_is c.one.invariant) (copy_is _ _ (c.of-2.ensures ∙ c.replace-second.ensures.value) _ c.other.view_is c.other.invariant)

@@ -6,8 +6,7 @@ use Rattle.fg_books.proofs.books.Books.pay.Goals as goal
 
 pub split_as-other-requires : goal.split_as-other-requires
 split_as-other-requires c = (
-  c.united-seat.ensures.own,
-  omega (arith, c.self.invariant),
+  (c.united-seat.ensures.own, omega (arith, c.self.invariant)),
   splits_of _ _ _ _ _ _ (joined_copies _ _ _ _ _ c.of.ensures c.of-2.ensures (ap (λ me. me.0) c.united-seat.ensures.joined))
       (pay_splits _ c.of.result.value.table_id c.of-2.result.value.table_id c.of.result.value.views c.of-2.result.value.views _ _
       (copy_is _ _ (c.of.ensures ∙ c.replace-one.ensures.value) _ c.from.view_is c.from.invariant) (copy_is _ _ (c.of-2.ensures ∙ c.replace-other.ensures.value) _ c.to.view_is c.to.invariant)
