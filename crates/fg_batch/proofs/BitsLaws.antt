@@ -1,12 +1,13 @@
 -- Single bits of a set.
-use Rattle.std.proofs.Common.{◌≡◌, ◌≢◌, ℕ, ◌+◌, ◌-◌, ◌*◌, ◌/◌, ◌%◌, ◌^◌, ◌<◌, ◌≤◌, ◌==◌, ◌||◌, Bool, true, false, List, length, get_or, set, bit_or, w64, subst, sym, ap, ◌∙◌, arith, eq-eqb, inl, inr, get_or-set_same, get_or-set_other, lt_of_not-le}
+use Rattle.std.proofs.Common.{◌≡◌, ◌≢◌, ℕ, ◌+◌, ◌-◌, ◌*◌, ◌/◌, ◌%◌, ◌^◌, ◌<◌, ◌≤◌, ◌==◌, ◌||◌, Bool, true, false, List, length, get_or, set, take, bit_or, w64, subst, sym, ap, ◌∙◌, arith, eq-eqb, inl, inr, get_or-set_same, get_or-set_other, lt_of_not-le}
 use Rattle.std.proofs.lemmas.Bool.{cases_eq, cases_lt, ne_eqb}
-use Rattle.std.proofs.lemmas.List.{get_or_past}
+use Rattle.std.proofs.lemmas.List.{get_or-take, get_or_past}
 use Rattle.std.proofs.lemmas.Grind.{get_or_default_zero}
-use Rattle.std.proofs.lemmas.Nat.{shr-shr, shr_le}
+use Rattle.std.proofs.lemmas.Nat.{div-add-mod', mod_below, shr-shr, shr_le}
 use Rattle.std.proofs.lemmas.Nat.Bits.{bit_at-trailing_zeros, bit_at-zero, bit_at_above, bit_at_set_same, bit_at_set_other}
-use Rattle.std.specs.Int.{bit_at, trailing_zeros}
-use Rattle.fg_batch.specs.Bits.{is_in}
+use Rattle.std.specs.Int.{bit_at, div_ceil, trailing_zeros}
+use Rattle.fg_part.proofs.Ceilings.{below_ceiling}
+use Rattle.fg_batch.specs.Bits.{AreFlagged, is_in}
 
 module _ (words : List ℕ) (number : ℕ) (within : number < length words * 64) where
   abbrev written : ℕ
@@ -137,3 +138,45 @@ module _ (words : List ℕ) (a : ℕ) (some : 0 < get_or words a 0) (fits : get_
       let least : k < a * 64 + 0 + trailing_zeros w64 (whole / 2 ^ 0) =
       subst (λ (x : ℕ). k < a * 64 + 0 + trailing_zeros w64 x) (sym halves) (omega (arith, below)) in
       none_below words a 0 (omega arith) (omega (arith, halves, some)) fits k (omega (arith, above)) least
+
+-- a word is 0 now
+pub less_in : (words : List ℕ) (at k : ℕ) → at < length words → is_in words k ≡ false → is_in (set words at 0) k ≡ false
+unfolding is_in
+less_in words at k below none =
+    elim (cases_eq (k / 64) at) [
+      | inl same ↦ none_in (set words at 0) k (ap (λ (j : ℕ). get_or (set words at 0) j 0) same ∙ get_or-set_same words at 0 0 below)
+      | inr other ↦ ap (λ (w : ℕ). bit_at w (k % 64) == 1) (get_or-set_other words at (k / 64) 0 0 other) ∙ none
+    ]
+
+-- the first words alone
+pub is_in-take : (words : List ℕ) (n k : ℕ) → k / 64 < n → is_in (take n words) k ≡ is_in words k
+unfolding is_in
+is_in-take words n k below = ap (λ (w : ℕ). bit_at w (k % 64) == 1) (get_or-take n words (k / 64) 0 below)
+
+-- a number is in the set now, and its block has its flag
+pub flagged-put : (size at : ℕ) (flags : List Bool) (words now : List ℕ) → at / size < length flags → AreFlagged size flags words
+    → ((k : ℕ) → is_in now k ≡ ((k == at) || is_in words k)) → AreFlagged size (set flags (at / size) true) now
+flagged-put size at flags words now below flagged more k none =
+    elim (cases_eq (k / size) (at / size)) [
+      | inl same ↦
+          let wrong : true ≡ false =
+          sym (ap (λ (j : ℕ). get_or (set flags (at / size) true) j false) same ∙ get_or-set_same flags (at / size) true false below) ∙ none in
+          absurd (cc)
+      | inr other ↦
+          let bare : get_or flags (k / size) false ≡ false = sym (get_or-set_other flags (at / size) (k / size) true false other) ∙ none in
+          more k ∙ ap (λ (b : Bool). b || is_in words k) (ne_eqb k at (λ same. other (ap (λ (x : ℕ). x / size) same))) ∙ flagged k bare
+    ]
+
+-- the words of a block are wiped, and its flag is gone
+pub flagged-wiped : (size block : ℕ) (flags : List Bool) (words now : List ℕ) → 0 < size → AreFlagged size flags words
+    → ((k : ℕ) → block * size / 64 ≤ k / 64 → k / 64 < div_ceil (block * size + size) 64 → is_in now k ≡ false)
+    → ((k : ℕ) → is_in words k ≡ false → is_in now k ≡ false) → AreFlagged size (set flags block false) now
+flagged-wiped size block flags words now some flagged inside less k none =
+    elim (cases_eq (k / size) block) [
+      | inl same ↦
+          let whole : block * size + k % size ≡ k = subst (λ (b : ℕ). b * size + k % size ≡ k) same (div-add-mod' k size) in
+          let rest : k % size < size = mod_below k size some in
+          let ends : k / 64 < div_ceil (block * size + size) 64 = below_ceiling (k / 64) (block * size + size) 64 (omega arith) (omega (arith, whole, rest)) in
+          inside k (omega (arith, whole)) ends
+      | inr other ↦ less k (flagged k (sym (get_or-set_other flags block (k / size) false false other) ∙ none))
+    ]

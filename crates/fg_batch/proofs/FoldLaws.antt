@@ -12,7 +12,7 @@ use Rattle.fg_part.specs.declared.part_map.PartMap.{PartMap}
 use Rattle.fg_part.specs.PartMap.{part_of, place_of, places_in, vertex_at}
 use Rattle.fg_part.proofs.PartMapLaws.{place_back, place_within}
 
-abbrev Fits : Option ℕ → Type 0
+abbrev pub Fits : Option ℕ → Type 0
 Fits held = IfSome held (λ (number : ℕ). number < 2 ^ 64)
 
 -- what goes to one vertex of the part
@@ -41,7 +41,19 @@ module _ (P : Rules) (lawful : IsLawful P) (map : PartMap) (part v : ℕ) (verte
       get_or-set_other held (place_of map one.target) (place_of map v) (Some (joined P (held_at map held one.target) one.message)) None
       (λ same. other (sym (place_back map one.target) ∙ ap₂ (vertex_at map) (own ∙ sym mine) (sym same) ∙ place_back map v))
 
-  folds : (mail : List Mail) (held : List (Option ℕ)) → length held ≡ places_in map part → All (IsFor map part) mail
+  -- numbers stay below 2^64
+  pub folds-fit : (mail : List Mail) (held : List (Option ℕ)) → length held ≡ places_in map part → All (IsFor map part) mail
+      → All (λ (one : Mail). one.message < 2 ^ 64) mail → Fits (held_at map held v) → Fits (held_at map (with_all P map held mail) v)
+  folds-fit [] held count own fits held_fits = held_fits
+  folds-fit (one ∷ mail) held count own fits held_fits =
+      folds-fit mail (with_mail P map held one) (length-set held (place_of map one.target) _ ∙ count)
+      (λ k d below. own (suc k) d (omega (arith, below))) (λ k d below. fits (suc k) d (omega (arith, below)))
+      (elim (cases_eq one.target v) [
+        | inl same ↦ subst Fits (sym (held-same held one count same)) (joined-fits (held_at map held v) one.message held_fits (fits 0 one (omega arith)))
+        | inr other ↦ subst Fits (sym (held-other held one (own 0 one (omega arith)).own other)) held_fits
+      ])
+
+  pub folds : (mail : List Mail) (held : List (Option ℕ)) → length held ≡ places_in map part → All (IsFor map part) mail
       → All (λ (one : Mail). one.message < 2 ^ 64) mail → Fits (held_at map held v)
       → received P (held_at map (with_all P map held mail) v) s ≡ fold P.receive (received P (held_at map held v) s) (sent_to v mail)
   folds [] held count own fits held_fits = refl

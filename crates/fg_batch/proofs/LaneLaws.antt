@@ -1,5 +1,5 @@
 -- The lanes of an outbox, one of which changes.
-use Rattle.std.proofs.Common.{◌≡◌, ◌≢◌, ℕ, zero, suc, ◌+◌, ◌-◌, ◌*◌, ◌/◌, ◌<◌, ◌≤◌, ◌==◌, true, false, List, [], ◌∷◌, ◌++◌, length, get_or, map as each, set, refl, subst, sym, ap, ap₂, ◌∙◌, inl, inr, arith, eq-eqb, get_or-set_same, get_or-set_other, length-set, append-nil}
+use Rattle.std.proofs.Common.{◌≡◌, ◌≢◌, ℕ, zero, suc, ◌+◌, ◌-◌, ◌*◌, ◌/◌, ◌%◌, ◌<◌, ◌≤◌, ◌==◌, true, false, List, [], ◌∷◌, ◌++◌, length, get_or, map as each, set, refl, subst, sym, ap, ap₂, ◌∙◌, inl, inr, arith, eq-eqb, get_or-set_same, get_or-set_other, length-set, append-nil}
 use Rattle.std.proofs.Math.Nat.{mul-le-mul_right}
 use Rattle.std.proofs.lemmas.Bool.{cases_eq, cases_lt, ne_eqb}
 use Rattle.std.proofs.lemmas.List.{get_or_default, map-append}
@@ -178,6 +178,12 @@ told-fit map lanes block of_part at right count below along batches batch same f
         let low : at / of_part < map.parts = (div-lt_iff_lt-mul some).1 (omega (arith, below, count)) in
         omega (arith, own, low)
 
+    low : batch.lane < lanes_each map
+    low =
+        let some : 0 < of_part = omega (arith, right) in
+        let rest : at % of_part < of_part = mod-lt at some in
+        omega (arith, ap (λ (told : LaneMail). told.lane) same, rest, right)
+
     one : All (IsForItsPart map) (batch ∷ [])
-    one zero d inside = (within, mine)
+    one zero d inside = record { part = within; lane = low; mails = mine }
     one (suc k) d inside = absurd (omega (arith, inside))

@@ -6,3 +6,4 @@ pub mod FoldLaws
 pub mod LaneLaws
 pub mod SentLaws
 pub mod DeliveredLaws
+pub mod BlockLaws

@@ -1,14 +1,14 @@
 -- What came to a part: at each place the one number that all messages to its vertex combine to.
-use Rattle.std.specs.Prelude.{◌≡◌, ℕ, ◌*◌, ◌^◌, ◌<◌, ◌≤◌, Option, Some, None, List, All, fold, length, map as each, slice_index_or, slice_set, if◌then◌else◌}
+use Rattle.std.specs.Prelude.{◌≡◌, ℕ, ◌+◌, ◌*◌, ◌^◌, ◌<◌, ◌≤◌, Bool, Option, Some, None, List, All, fold, length, map as each, slice_index_or, slice_set, if◌then◌else◌}
 use Rattle.std.specs.List.{range_with_len}
 use Rattle.fg_base.specs.declared.plain.VState.{VState}
-use Rattle.fg_batch.specs.Bits.{is_in}
+use Rattle.fg_batch.specs.Bits.{AreFlagged, is_in}
 use Rattle.fg_batch.specs.Lanes.{IsFor}
 use Rattle.fg_model.specs.declared.mail.Mail.{Mail}
 use Rattle.fg_model.specs.Iteration.{AreStates, sent_to, state_at}
 use Rattle.fg_model.specs.Program.{Rules}
 use Rattle.fg_part.specs.declared.part_map.PartMap.{PartMap}
-use Rattle.fg_part.specs.PartMap.{part_of, place_of, places_in}
+use Rattle.fg_part.specs.PartMap.{block_size, blocks_in, part_of, place_of, places_in}
 
 -- the program whose messages come, the part, and what each place holds
 pub record Holding (P : Type 0) : Type 0 where
@@ -75,9 +75,20 @@ FoldsEach P map part =
 abbrev pub held_by : List ℕ → List ℕ → List (Option ℕ)
 held_by numbers came = each (λ k. if is_in came k then Some (slice_index_or numbers k 0) else None) (range_with_len 0 (length numbers))
 
--- the part is one of the map's, and has a number and a bit for each of its places
-pub record IsInbox (map : PartMap) (part : ℕ) (numbers came : List ℕ) : Type 0 where
+-- the part is one of the map's, and has a number and a bit for each of its places, and a flag for each of its blocks
+pub record IsInbox (map : PartMap) (part : ℕ) (numbers came : List ℕ) (flags : List Bool) : Type 0 where
   pub own : part < map.parts
   pub count : length numbers ≡ places_in map part
   pub enough : length numbers ≤ length came * 64
   pub few : length came ≤ 2 ^ 40
+  pub flag_count : length flags ≡ blocks_in map part
+  pub flagged : AreFlagged (block_size map) flags came
+
+-- what came to the place k of a block of the part
+abbrev pub held_in : PartMap → List (Option ℕ) → ℕ → ℕ → Option ℕ
+held_in map held number k = slice_index_or held (number * block_size map + k) None
+
+-- the states of a block have what came to its places folded in
+pub record HasBlockFolded (P : Rules) (map : PartMap) (number : ℕ) (held : List (Option ℕ)) (old new : List VState) : Type 0 where
+  pub count : length new ≡ length old
+  pub each : (k : ℕ) → k < length old → state_at new k ≡ received P (held_in map held number k) (state_at old k)

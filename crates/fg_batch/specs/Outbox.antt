@@ -63,9 +63,11 @@ has_mail lane = not (length lane.mails == 0)
 abbrev pub lanes_with_mail : ℕ → ℕ → List MailList → List LaneMail
 lanes_with_mail block lanes_of_part lanes = filter has_mail (each (lane_mail block lanes_of_part lanes) (range_with_len 0 (length lanes)))
 
--- a batch goes to vertices of its part alone
-abbrev pub IsForItsPart : PartMap → Batch → Type 0
-IsForItsPart map batch = (batch.part < map.parts) × All (IsFor map batch.part) batch.mails.items
+-- a batch stands in one of the lanes of its part, and goes to vertices of that part alone
+pub record IsForItsPart (map : PartMap) (batch : Batch) : Type 0 where
+  pub part : batch.part < map.parts
+  pub lane : batch.lane < lanes_each map
+  pub mails : All (IsFor map batch.part) batch.mails.items
 
 -- what was sent stands in the batches: one for each lane that isn't empty
 pub record AreBatches (sending : Sending) (block : ℕ) (batches : List Batch) : Type 0 where

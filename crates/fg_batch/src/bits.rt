@@ -1,7 +1,7 @@
 //! Sets of numbers as bits: number `i` is in the set where bit `i % 64` of word `i / 64` is set.
 
-ghost use Rattle.std.specs.Prelude.{◌≡◌, ℕ, ◌*◌, ◌^◌, ◌<◌, ◌≤◌, ◌==◌, ◌||◌, true, false, IfOk, length};
-ghost use Rattle.fg_batch.specs.Bits.{is_in};
+ghost use Rattle.std.specs.Prelude.{◌≡◌, ℕ, ◌*◌, ◌/◌, ◌^◌, ◌<◌, ◌≤◌, ◌==◌, ◌||◌, true, false, IfOk, length, slice_index_or};
+ghost use Rattle.fg_batch.specs.Bits.{AreFlagged, is_in};
 
 use fg_base::Memory;
 use std::alloc::Global;
@@ -57,12 +57,34 @@ pub(crate) fn empty_set(alloc: Global, words: usize) -> Result<Vec<u64>, Memory>
     Ok(vec![in alloc; 0; words]?)
 }
 
-/// Takes all numbers out of the set.
-pub(crate) fn wipe(words: &mut Vec<u64>)
+/// Takes all numbers out of the set, and all flags of their blocks away, which have `size` numbers each. It touches only words of
+/// blocks with a flag.
+pub(crate) fn wipe_flagged(words: &mut Vec<u64>, flags: &mut Vec<bool>, size: usize)
+    requires size { (0 < size) × (size ≤ 2 ^ 16) }
+    requires few { length words.old.items ≤ 2 ^ 40 }
+    requires enough { length flags.old.items * size ≤ length words.old.items * 64 }
+    requires flagged { AreFlagged size flags.old.items words.old.items }
     ensures length { length words.new.items ≡ length words.old.items }
     ensures none { (k : ℕ) → is_in words.new.items k ≡ false }
+    ensures flag_count { length flags.new.items ≡ length flags.old.items }
 {
-    for index in 0..words.len() {
+    for block in 0..flags.len() {
+        if flags[block] {
+            let first = block * size;
+            wipe(words, first / 64, (first + size).div_ceil(64));
+            flags[block] = false;
+        }
+    }
+}
+
+/// Takes out the numbers that stand in these words.
+fn wipe(words: &mut Vec<u64>, from: usize, end: usize)
+    requires { end ≤ length words.old.items }
+    ensures length { length words.new.items ≡ length words.old.items }
+    ensures inside { (k : ℕ) → from ≤ k / 64 → k / 64 < end → is_in words.new.items k ≡ false }
+    ensures less { (k : ℕ) → is_in words.old.items k ≡ false → is_in words.new.items k ≡ false }
+{
+    for index in from..end {
         words[index] = 0;
     }
 }

@@ -5,16 +5,13 @@ ghost use Rattle.fg_batch.specs.Lanes.{lanes_each};
 ghost use Rattle.fg_batch.specs.Outbox.{AreAlong, AreBatches, HasRoom, HoldsAllSent, IsForItsPart, IsUnsent};
 ghost use Rattle.fg_batch.specs.Outbox.{KeepsOrder, Sends, lane_at, lanes_with_mail, told_by};
 
-use crate::batch::Batch;
+use crate::batch::{Batch, LANE_PLACES};
 use crate::mails::Mails;
 use fg_base::Memory;
 use fg_model::Mail;
 use fg_part::PartMap;
 use std::alloc::Global;
 use std::marker::Model;
-
-/// A lane has so many places of a part. A block has no more.
-const LANE_PLACES: u32 = 1 << 16;
 
 /// The messages that were sent and not yet taken out, by their parts. Each part has one list for each 2^16 of its places, since
 /// delivering stays near then. The lists keep their room over the blocks of a worker.
@@ -41,7 +38,7 @@ impl Outbox {
         ensures map { IfOk result (λ outbox. outbox.map ≡ map) }
         ensures empty { IfOk result IsUnsent }
     {
-        let lanes_of_part = map.places(0) / LANE_PLACES + 1;
+        let lanes_of_part = Batch::lanes(map);
         let lanes = empty_lanes(alloc, map.parts * lanes_of_part)?;
         Ok(Outbox {
             map,

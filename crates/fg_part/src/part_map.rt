@@ -19,7 +19,7 @@ pub struct PartMap {
 }
 
 impl PartMap {
-    ghost use Rattle.fg_part.specs.PartMap.{block_of, part_of, block_total, blocks_in, block_at, place_of, places_in, vertex_at, StandsIn, IsBlock};
+    ghost use Rattle.fg_part.specs.PartMap.{block_size, block_of, part_of, block_total, blocks_in, block_at, place_of, places_in, vertex_at, StandsIn, IsBlock};
 
     /// The map over the vertices below `n`.
     pub fn new(n: u32, shift: u32, parts: u32) -> PartMap
@@ -29,6 +29,15 @@ impl PartMap {
         ensures { (result.n ≡ n) × (result.shift ≡ shift) × (result.parts ≡ parts) }
     {
         PartMap { n, shift, parts }
+    }
+
+    /// How many vertices a full block has.
+    pub fn block_size(&self) -> u32
+        ensures value { result ≡ block_size self.now }
+        ensures some { 0 < result }
+        ensures few { result ≤ 2 ^ MAX_SHIFT }
+    {
+        1 << self.shift
     }
 
     /// The one block that `v` stands in.

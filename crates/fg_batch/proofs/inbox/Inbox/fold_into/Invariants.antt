@@ -6,7 +6,7 @@ use Rattle.fg_batch.proofs.inbox.Inbox.fold_into.Given as goal
 
 abbrev pub invariant-loop-place : goal.invariant-loop-place
 invariant-loop-place g l = record {
-  folded : IsFoldedBelow (g.P.Program.rules l.self-inside.program.now) l.self-inside.map l.self-inside.part l.place (held_by l.self-inside.numbers.items l.self-inside.came.items) l.fn.states.items l.states.items;
+  folded : IsFoldedBelow (g.P.Program.rules l.self-inside.program.now) l.self-inside.map l.self-inside.part l.place (held_by l.self-inside.numbers.items l.self-inside.came.items) l.fn.states l.states;
   within : l.place ≤ length l.self-inside.came.items * 64;
   found : l.place < length l.self-inside.came.items * 64 → is_in l.self-inside.came.items l.place ≡ true;
 }

@@ -1,5 +1,5 @@
 use Rattle.std.proofs.Common.{suc, arith}
-use Rattle.fg_batch.proofs.inbox.Inbox.deliver.Goals as goal
+use Rattle.fg_batch.proofs.inbox.Inbox.accept.Goals as goal
 
 pub loop-mail-preserved : goal.loop-mail-preserved
 loop-mail-preserved g c =

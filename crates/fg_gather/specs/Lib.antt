@@ -1,0 +1,5 @@
+pub mod Arrivals
+pub mod Deliver
+pub mod Gather
+pub mod Marks
+pub mod Pass
