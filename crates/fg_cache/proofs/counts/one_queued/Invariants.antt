@@ -1,0 +1,6 @@
+use Rattle.std.proofs.Common.{◌+◌}
+use Rattle.fg_cache.proofs.counts.one_queued.Given as goal
+
+-- one more
+abbrev pub ghosts-picked_from : goal.ghosts-picked_from
+ghosts-picked_from a = record { queued = a._counts.now.value.queued + 1; stale = a._counts.now.value.stale; hits = a._counts.now.value.hits }

@@ -1,0 +1,17 @@
+pub mod Share
+pub mod Site
+pub mod Names
+pub mod Pass
+pub mod Load
+pub mod SetDesk
+pub mod QueueDesk
+pub mod Slips
+pub mod Shelf
+pub mod Room
+pub mod Cache
+pub mod Closing
+pub mod Opening
+pub mod Stock
+pub mod Joining
+pub mod Gathering
+pub mod Used
