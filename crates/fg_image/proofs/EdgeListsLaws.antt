@@ -58,7 +58,7 @@ pub flat_map-mapped : {X A B : Type 0} (h : A → B) (f : X → List A) (xs : Li
 flat_map-mapped h f [] = refl
 flat_map-mapped {B = B} h f (x ∷ xs) = ap (λ (l : List B). map h (f x) ++ l) (flat_map-mapped h f xs) ∙ sym (map-append h (f x) (flat_map f xs))
 
-flat_map-filtered : {X A : Type 0} (p : A → Bool) (f : X → List A) (xs : List X) → flat_map (λ x. filter p (f x)) xs ≡ filter p (flat_map f xs)
+pub flat_map-filtered : {X A : Type 0} (p : A → Bool) (f : X → List A) (xs : List X) → flat_map (λ x. filter p (f x)) xs ≡ filter p (flat_map f xs)
 flat_map-filtered p f [] = refl
 flat_map-filtered {A = A} p f (x ∷ xs) = ap (λ (l : List A). filter p (f x) ++ l) (flat_map-filtered p f xs) ∙ sym (filter-append p (f x) (flat_map f xs))
 

@@ -1,4 +1,5 @@
 pub mod CellLaws
+pub mod CheckingLaws
 pub mod EdgeListsLaws
 pub mod EntryLaws
 pub mod GroupLaws
@@ -6,11 +7,15 @@ pub mod HeaderBytesLaws
 pub mod HeaderLaws
 pub mod ImageBytesLaws
 pub mod IndexBytesLaws
+pub mod KeyLaws
 pub mod LimitLaws
 pub mod MakingLaws
+pub mod MirrorLaws
 pub mod PartsLaws
 pub mod PlaceLaws
 pub mod RangeLaws
 pub mod SectionBytesLaws
 pub mod SpanLaws
 pub mod TallyLaws
+pub mod TargetLaws
+pub mod TurnedLaws

@@ -67,3 +67,7 @@ begin_whole layout index dir v = whole index.weighted (first_page_of layout dir)
     whole : (weighted : Bool) (page entries : ℕ) → (page * 4096 + entries * entry_bytes weighted) % entry_bytes weighted ≡ 0
     whole true page entries = omega arith
     whole false page entries = omega arith
+
+-- a place that was moved by a list is where the next one begins
+pub moved : (place begin degree count size bytes next : ℕ) → place ≡ begin → degree ≡ count → size ≡ bytes → next ≡ begin + count * bytes → place + degree * size ≡ next
+moved place begin degree count size bytes next at_begin same_count same_size is_next = rw (at_begin, same_count, same_size, is_next) refl

@@ -18,6 +18,9 @@ pub record Parts : Type 0 where
   pub layout : Layout
   pub index : ImageIndex
 
+abbrev pub parts_with : Header → Layout → ImageIndex → Parts
+parts_with header layout index = record { header = header; layout = layout; index = index }
+
 -- the degrees that were found as an index, or the place of the fault
 abbrev pub found_index : Bool → Result (List ℕ × List ℕ) (Dir × ℕ) → Result ImageIndex Refusal
 found_index weighted (Err (dir, place)) = Err (BadIndex dir place)
@@ -43,12 +46,16 @@ with_front image (Ok front) = with_index front (index_of front.header (index_in 
 unfoldable pub parts_in : ℕ → List ℕ → Result Parts Refusal
 parts_in pages image = with_front image (front_at pages (page_of image 0))
 
+-- the image says these parts
+abbrev pub AreParts : List ℕ → Parts → Type 0
+AreParts image parts = parts_in (length image / 4096) image ≡ Ok parts
+
 -- bytes are an image: whole pages, from 2 to 2^19, whose header, sections and index are accepted
 pub record IsImage (image : List ℕ) (parts : Parts) : Type 0 where
   pub whole : length image % 4096 ≡ 0
   pub some_pages : 2 ≤ length image / 4096
   pub few_pages : length image / 4096 ≤ 2 ^ 19
-  pub accepted : parts_in (length image / 4096) image ≡ Ok parts
+  pub accepted : AreParts image parts
 
 -- the graph of an image with these parts
 abbrev pub graph_in : Parts → List ℕ → Graph

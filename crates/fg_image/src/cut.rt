@@ -1,7 +1,7 @@
 //! The graph of an image in memory.
 
 ghost use Rattle.std.specs.Prelude.{◌≡◌, ◌+◌, ◌*◌, ◌/◌, ◌≤◌, IfOk, Ok, length};
-ghost use Rattle.fg_image.specs.Image.{IndexFits, IsImage, Parts, graph_in, parts_in};
+ghost use Rattle.fg_image.specs.Image.{AreParts, IndexFits, IsImage, Parts, graph_in};
 ghost use Rattle.fg_image.specs.Lists.{entries_at, entry_at, first_page_of, graph_by, rows_of};
 ghost use Rattle.fg_index.specs.ImageIndex.{entry_bytes};
 ghost use Rattle.fg_model.specs.Graph.{IsWithinLimits};
@@ -116,7 +116,8 @@ pub fn cut_graph(
 /// The graph of an image: for each vertex its two lists, cut out by the degrees. Its targets may be no vertices.
 pub fn graph_of(alloc: Global, image: &Vec<u8>) -> Result<Graph, Memory>
     requires is_image { (parts : Parts) × IsImage image.now.items parts }
-    ensures graph { IfOk result (λ graph. (parts : Parts) → parts_in (length image.now.items / 4096) image.now.items ≡ Ok parts → graph ≡ graph_in parts image.now.items) }
+    ensures graph { IfOk result (λ graph.
+        (parts : Parts) → AreParts image.now.items parts → graph ≡ graph_in parts image.now.items) }
     ensures limits { IfOk result IsWithinLimits }
 {
     let pages = (image.len() / PAGE_BYTES) as u32;

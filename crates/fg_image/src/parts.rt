@@ -1,7 +1,8 @@
 //! What the bytes of an image say before its lists.
 
-ghost use Rattle.std.specs.Prelude.{◌≡◌, ◌≢◌, ◌+◌, ◌*◌, ◌≤◌, IfOk, IfErr, Ok, Err, length};
+ghost use Rattle.std.specs.Prelude.{◌≡◌, ◌≢◌, ◌+◌, ◌*◌, ◌≤◌, IfOk, IfErr, Ok, Err, length, sum};
 ghost use Rattle.fg_base.specs.declared.limits.TheConstants.{MAX_IMAGE_PAGES};
+ghost use Rattle.fg_image.specs.Front.{HeaderFits};
 ghost use Rattle.fg_image.specs.Image.{IndexFits, index_in, parts_in};
 
 use crate::header::Header;
@@ -36,6 +37,8 @@ pub(crate) fn read_parts(alloc: Global, image: &[u8], pages: u32) -> Result<Imag
     ensures parts { IfOk result (λ parts. parts_in pages image.now ≡ Ok (record { header = parts.header; layout = parts.layout; index = parts.index })) }
     ensures pages { IfOk result (λ parts. parts.layout.pages ≡ pages) }
     ensures fits { IfOk result (λ parts. IndexFits parts.layout parts.index) }
+    ensures header { IfOk result (λ parts. HeaderFits parts.header parts.layout) }
+    ensures entries { IfOk result (λ parts. sum parts.index.outs ≡ parts.header.out_entries) }
     ensures refusal { IfErr result (λ refusal. refusal ≢ Refusal.Memory → parts_in pages image.now ≡ Err refusal) }
 {
     let header = match Header::read(&image[..PAGE_BYTES]) {

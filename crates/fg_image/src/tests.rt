@@ -1,9 +1,9 @@
 //! The header, the sections and the graphs of a small image written by hand: five vertices, five edges.
 
 use crate::parts::read_parts;
-use crate::{Header, graph_of, image_pages, make_image};
+use crate::{Header, check_image, graph_of, image_pages, make_image};
 use fg_base::limits::PAGE_BYTES;
-use fg_base::{Entry, Items, Memory, Refusal};
+use fg_base::{BadEdge, Dir, Entry, Items, Memory, Refusal};
 use fg_model::{Edges, Graph, Pair};
 use fg_stripe::Layout;
 use std::alloc::{AllocError, Global};
@@ -433,5 +433,138 @@ fn pages_are_told_without_the_image(rt: HostRuntime) -> Result<(), Fail> {
         Ok(edges) => assert_eq!(rt; image_pages(rt.alloc(), &edges), Ok(4)),
         Err(_) => assert!(rt; false),
     }
+    Ok(())
+}
+
+/// What the check of the bytes answers, where they are an image of four pages.
+fn checked(alloc: Global, image: &Vec<u8>) -> Option<Result<(), Refusal>> {
+    if image.len() != 4 * PAGE_BYTES {
+        return None;
+    }
+    match read_parts(alloc, image, 4) {
+        Ok(_) => Some(check_image(alloc, image)),
+        Err(_) => None,
+    }
+}
+
+/// What the check of the image answers, with these bytes of it changed.
+fn check_with(
+    alloc: Global,
+    changes: &[(usize, u8)],
+) -> Result<Option<Result<(), Refusal>>, AllocError> {
+    let mut image = image_with(alloc, 0, 20, &OUTS, &INS)?;
+    for (place, byte) in changes {
+        if *place < image.len() {
+            image[*place] = *byte;
+        }
+    }
+    Ok(checked(alloc, &image))
+}
+
+/// The refusal of an entry that leads to no vertex.
+fn bad_edge(v: u32, dir: Dir, place: u32, found: u32) -> Option<Result<(), Refusal>> {
+    Some(Err(Refusal::BadEdge(BadEdge {
+        v,
+        dir,
+        place,
+        found,
+    })))
+}
+
+#[test]
+fn an_image_is_checked(rt: HostRuntime) -> Result<(), Fail> {
+    assert_eq!(rt; check_with(rt.alloc(), &[])?, Some(Ok(())));
+    // the in-list of vertex 3 in another order
+    assert_eq!(rt;
+        check_with(rt.alloc(), &[(8200, 2), (8204, 1)])?,
+        Some(Ok(()))
+    );
+    Ok(())
+}
+
+#[test]
+fn a_target_that_is_no_vertex_is_found(rt: HostRuntime) -> Result<(), Fail> {
+    assert_eq!(rt;
+        check_with(rt.alloc(), &[(4108, 5)])?,
+        bad_edge(2, Dir::Out, 0, 5)
+    );
+    assert_eq!(rt;
+        check_with(rt.alloc(), &[(8204, 5)])?,
+        bad_edge(3, Dir::In, 1, 5)
+    );
+    // the out-list first, the lower vertex first, and either before padding
+    assert_eq!(rt;
+        check_with(rt.alloc(), &[(8200, 5), (4112, 6), (8191, 1)])?,
+        bad_edge(3, Dir::Out, 0, 6)
+    );
+    assert_eq!(rt;
+        check_with(rt.alloc(), &[(8196, 5), (4112, 6)])?,
+        bad_edge(2, Dir::In, 0, 5)
+    );
+    Ok(())
+}
+
+#[test]
+fn a_byte_behind_a_section_is_found(rt: HostRuntime) -> Result<(), Fail> {
+    assert_eq!(rt;
+        check_with(rt.alloc(), &[(8191, 1)])?,
+        Some(Err(Refusal::BadPadding(1)))
+    );
+    assert_eq!(rt;
+        check_with(rt.alloc(), &[(8212, 1)])?,
+        Some(Err(Refusal::BadPadding(2)))
+    );
+    assert_eq!(rt;
+        check_with(rt.alloc(), &[(12306, 128)])?,
+        Some(Err(Refusal::BadPadding(3)))
+    );
+    assert_eq!(rt;
+        check_with(rt.alloc(), &[(16383, 1), (12287, 1)])?,
+        Some(Err(Refusal::BadPadding(2)))
+    );
+    // padding comes before a list that isn't mirrored
+    assert_eq!(rt;
+        check_with(rt.alloc(), &[(4108, 4), (16383, 1)])?,
+        Some(Err(Refusal::BadPadding(3)))
+    );
+    Ok(())
+}
+
+#[test]
+fn a_list_that_is_not_mirrored_is_found(rt: HostRuntime) -> Result<(), Fail> {
+    assert_eq!(rt;
+        check_with(rt.alloc(), &[(4108, 4)])?,
+        Some(Err(Refusal::NotMirror(3)))
+    );
+    assert_eq!(rt;
+        check_with(rt.alloc(), &[(8192, 2)])?,
+        Some(Err(Refusal::NotMirror(1)))
+    );
+    // as many entries, and the same sources, but one of them twice
+    assert_eq!(rt;
+        check_with(rt.alloc(), &[(8204, 1)])?,
+        Some(Err(Refusal::NotMirror(3)))
+    );
+    Ok(())
+}
+
+#[test]
+fn weights_are_checked(rt: HostRuntime) -> Result<(), Fail> {
+    let outs = [
+        1, 0, 0, 0, 7, 0, 0, 0, 2, 0, 0, 0, 0, 0, 0, 0, 3, 0, 0, 0, 255, 255, 255, 255, 3, 0, 0, 0,
+        0, 1, 0, 0, 4, 0, 0, 0, 1, 0, 0, 0,
+    ];
+    let mut ins = [
+        0, 0, 0, 0, 7, 0, 0, 0, 0, 0, 0, 0, 0, 0, 0, 0, 2, 0, 0, 0, 0, 1, 0, 0, 1, 0, 0, 0, 255,
+        255, 255, 255, 3, 0, 0, 0, 1, 0, 0, 0,
+    ];
+    let image = image_with(rt.alloc(), 1, 40, &outs, &ins)?;
+    assert_eq!(rt; checked(rt.alloc(), &image), Some(Ok(())));
+    ins[4] = 6;
+    let image = image_with(rt.alloc(), 1, 40, &outs, &ins)?;
+    assert_eq!(rt;
+        checked(rt.alloc(), &image),
+        Some(Err(Refusal::NotMirror(1)))
+    );
     Ok(())
 }

@@ -1,14 +1,11 @@
-use Rattle.std.proofs.Common.{◌≡◌, ℕ, ◌+◌, ◌*◌, ◌<◌, List, [], ◌∷◌, ◌++◌, length, map, refl, sym, ap, ◌∙◌, arith}
+use Rattle.std.proofs.Common.{◌≡◌, ℕ, ◌<◌, List, [], ◌∷◌, ◌++◌, length, map, sym, ap, ◌∙◌, arith}
 use Rattle.std.specs.List.{range_with_len}
 use Rattle.std.proofs.lemmas.List.FromFn.{map-range_with_len_more}
 use Rattle.fg_base.specs.declared.plain.Entry.{Entry}
 use Rattle.fg_image.specs.Lists.{begin_of, entries_at, list_of}
-use Rattle.fg_image.proofs.SpanLaws.{begin_of-next, each_degree}
+use Rattle.fg_image.proofs.SpanLaws.{begin_of-next, each_degree, moved}
 use Rattle.fg_index.specs.ImageIndex.{degrees_in, entry_bytes}
 use Rattle.fg_image.proofs.cut.cut_rows.Goals as goal
-
-moved : (place begin degree count size bytes next : ℕ) → place ≡ begin → degree ≡ count → size ≡ bytes → next ≡ begin + count * bytes → place + degree * size ≡ next
-moved place begin degree count size bytes next at_begin same_count same_size is_next = rw (at_begin, same_count, same_size, is_next) refl
 
 pub loop-v-preserved : goal.loop-v-preserved
 loop-v-preserved c =

@@ -1,0 +1,16 @@
+use Rattle.std.proofs.Common.{sym}
+use Rattle.std.proofs.lemmas.Bool.Decides.{Decides-eqb}
+use Rattle.std.proofs.lemmas.Slice.Eq.{slice_eq-Decides}
+use Rattle.fg_image.proofs.KeyLaws.{sorted_same, unsorted_same}
+use Rattle.fg_image.proofs.keys.is_same_weighted.Goals as goal
+
+pub returns-clause-same : goal.returns-clause-same
+returns-clause-same c =
+    let keys = c.args.keys.now in
+    let others = c.args.others.now in
+    let one = c.sort_unstable in
+    let other = c.sort_unstable-2 in
+    let decides = slice_eq-Decides Decides-eqb _ _ _ c.eq.ensures in (
+      (λ yes. unsorted_same keys others one.new.self other.new.self one.ensures.permutation other.ensures.permutation (sym (decides.0 yes))),
+      (λ same. decides.1 (sym (sorted_same keys others one.new.self other.new.self one.ensures.permutation other.ensures.permutation one.ensures.sorted other.ensures.sorted same))),
+    )
