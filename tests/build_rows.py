@@ -91,7 +91,8 @@ BUILDS = [
           [('bfs --source 0', G1_TEXT)]),
     built('an image of nothing', b'', '', 'vertices 0 out 0 in 0 plain pages 2', on([]),
           [('bfs --source 0', 'refused: source 0 not below 0\n', 8),
-           ('rank', 'program rank vertices 0 out 0 in 0\nsettled 0\n')]),
+           ('rank', 'program rank vertices 0 out 0 in 0\nsettled 0\n'),
+           ('wcc', 'program wcc vertices 0 out 0 in 0\nsettled 0\n')]),
     built('a loop, and a line without its end', b'0 0', '', 'vertices 1 out 1 in 1 plain pages 4', on(LOOP),
           [('bfs --source 0', LOOP_TEXT)]),
     built('weights, comments, tabs and carriage returns', DIRECTED, '', 'vertices 2 out 2 in 2 weighted pages 4',
@@ -180,6 +181,9 @@ GENERATED = [
     prints('a run on generated edges', 'large --start 42 --nodes 10 --edges 3 --program bfs --source 4',
            'program bfs vertices 8 out 3 in 3\niteration 0 phase 0 active 1 messages 1\n'
            'iteration 1 phase 0 active 1 messages 1\niteration 2 phase 0 active 1 messages 0\nsettled 3\nsum 3\n', {}),
+    prints('components of generated edges', 'large --start 42 --nodes 10 --edges 3 --program wcc',
+           'program wcc vertices 8 out 3 in 3\niteration 0 phase 0 active 8 messages 6\n'
+           'iteration 1 phase 0 active 3 messages 4\niteration 2 phase 0 active 1 messages 1\nsettled 3\nsum 21\n', {}),
     refused('a source that is no vertex of theirs', 'large --start 42 --nodes 10 --edges 3 --program bfs --source 8',
             'source 8 not below 8', 8, {}),
     refused('edges between no vertices', 'gen --start 1 --nodes 0 --edges 1', 'words range nodes', 2, {}),

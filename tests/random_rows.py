@@ -2,7 +2,7 @@
 import random
 
 from build_rows import build_of
-from images import drives_of, image_of, out_lists, vertices_of
+from images import built_line, drives_of, image_of, out_lists, vertices_of
 from reference import text_of
 from texts import Refused, edges_of, generated_text
 from transcripts import Call, Row, names, prints
@@ -15,7 +15,7 @@ def text_on(edges, program, argument, most=2**32 - 1, n=None, **options):
 
 
 def graphs(seed):
-    """The three programs on a random graph, over several drives, from pages and in memory."""
+    """Each program on a random graph, over several drives, from pages and in memory."""
     drawn = random.Random(seed)
     n = drawn.choice((1, 7, 60, 700))
     pairs = {(drawn.randrange(n), drawn.randrange(n) if drawn.random() < .7 else 0)
@@ -25,14 +25,17 @@ def graphs(seed):
     drives, unit = drawn.randint(1, 16), drawn.choice((1, 2, 16, 256))
     files = drives_of(image_of(edges, n), drives, unit, drawn.randrange(2**64))
     most = drawn.choice((1, 3, 40, 2**32 - 1))
-    for program, option in (('bfs', 'source'), ('sssp', 'source'), ('rank', 'cut')):
+    for program, option in (('bfs', 'source'), ('sssp', 'source'), ('wcc', ''), ('core', ''), ('rank', 'cut')):
         argument = drawn.randrange(n) if option == 'source' else drawn.choice((1000, 50000))
+        given = f' --{option} {argument}' * bool(option)
         each, quiet = drawn.random() < .3, drawn.random() < .3
         text = text_on(edges, program, argument, most, n, each=each, quiet=quiet)
-        words = f'--program {program} --{option} {argument} --max {most}' + ' --each' * each + ' --quiet' * quiet
+        words = f'--program {program}{given} --max {most}' + ' --each' * each + ' --quiet' * quiet
         for command in ('run', 'ref'):
             yield prints(f'random graph {seed}: {command} {program} over {drives} drives',
                          f'{command} {words} {names(drives)}', text, files)
+    line = built_line(image_of(edges, n), drives).replace('built', 'checked')
+    yield prints(f'random graph {seed}: checked over {drives} drives', f'check {names(drives)}', line, files)
 
 
 BROKEN = (
@@ -119,7 +122,7 @@ def sum_of(start, nodes, count, undirected, program, argument, most=2**32 - 1):
 
 
 def generated_rows(seed):
-    """Generated edges as a text, and the three programs on them, one way and both ways."""
+    """Generated edges as a text, and the programs on them, one way and both ways."""
     drawn = random.Random(seed)
     start, nodes, count = drawn.randrange(2**64), drawn.choice((1, 9, 80, 2**14)), drawn.choice((1, 30, 500))
     words = f'--start {start} --nodes {nodes} --edges {count}'
@@ -128,7 +131,7 @@ def generated_rows(seed):
     source = edges_of(text)[0][0]
     for undirected in (False, True):
         for option, argument in ((f'bfs --source {source}', source), (f'sssp --source {source}', source),
-                                 ('rank --cut 5000 --max 20', 5000)):
+                                 ('wcc', None), ('core', None), ('rank --cut 5000 --max 20', 5000)):
             program, most = option.split()[0], 20 if 'rank' in option else 2**32 - 1
             drives = f'--drives {drawn.randint(1, 16)} --unit {drawn.choice((1, 2, 16, 256))}'
             both = ' --undirected' * undirected

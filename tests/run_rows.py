@@ -1,8 +1,8 @@
-"""Rows of runs on drives that images.py makes: levels, weights, rank, words, and each refusal of drives and images."""
+"""Rows of runs and checks on drives that images.py makes: each program, words, and each refusal of drives and images."""
 from images import PAGE, changed, drives_of, image_of
 from samples import (
-    DETOUR, DETOUR_TEXT, G1, G1_DRIVE, G1_HEAD, G1_LEVELS, G1_TEXT, HEADER, INDEX, LONG_DEGREES, LONG_STAR, LONG_TEXT,
-    LOOP, LOOP_TEXT, OUTS, PAIR, RANK_HEAD, RANK_LINES, RANK_TEXT, STAR, WEIGHTED, WEIGHTED_TEXT, star_text)
+    DETOUR, DETOUR_TEXT, G1, G1_BUILT, G1_COMPONENTS, G1_DRIVE, G1_HEAD, G1_LEVELS, G1_TEXT, HEADER, INDEX, KITE, KITE_TEXT,
+    LONG_DEGREES, LONG_STAR, LONG_TEXT, LOOP, LOOP_TEXT, OUTS, PAIR, RANK_HEAD, RANK_LINES, RANK_TEXT, STAR, WEIGHTED, WEIGHTED_TEXT, star_text)
 from transcripts import names, one, prints, refused as refused_on
 
 FROM_FOUR = G1_HEAD + 'iteration 0 phase 0 active 1 messages 0\nsettled 1\n0 -\n1 -\n2 -\n3 -\n4 0\n'
@@ -66,6 +66,12 @@ RUNS = [
     row('least weights, a pair kept with the lesser one', 'run --program sssp --source 0 D0', WEIGHTED_TEXT,
         on(WEIGHTED)),
     row('a lighter way round, over weights of 0', 'ref --program sssp --source 0 D0', DETOUR_TEXT, on(DETOUR)),
+    # components and core numbers
+    row('components', 'run --program wcc D0', G1_COMPONENTS),
+    row('the same over three drives, in memory', f'ref --program wcc {names(3)}', G1_COMPONENTS, drives_of(G1, 3, 2)),
+    row('components of no vertex', 'run --program wcc D0', 'program wcc vertices 0 out 0 in 0\nsettled 0\n', on([])),
+    row('core numbers', 'run --program core D0', KITE_TEXT, on(KITE)),
+    row('the same in memory', 'ref --program core D0', KITE_TEXT, on(KITE)),
     # rank
     row('two iterations of rank', 'run --program rank --max 2 D0', RANK_TEXT, on(PAIR)),
     row('their sum', 'run --program rank --max 2 --quiet D0',
@@ -79,11 +85,12 @@ RUNS = [
     # words
     refused('no words', '', 'words parse', 2),
     refused('an unknown command', 'walk D0', 'words command', 2),
-    refused('a command that begins with a dash', '--program bfs', 'words command', 2),
+    refused('an option without a command', '--program bfs', 'words parse', 2),
     refused('an unknown option', 'run --depth 1 --program bfs --source 0 D0', 'words parse', 2),
     refused('an option twice', 'run --source 0 --source 1 --program bfs D0', 'words parse', 2),
     refused('an option without its value', 'run --program bfs --source', 'words parse', 2),
-    refused('an option behind a drive', 'run --program bfs --source 0 D0 --quiet', 'words parse', 2),
+    row('an option behind a drive', 'run --program bfs --source 4 D0 --max=9', FROM_FOUR),
+    refused('a source of components', 'run --program wcc --source 0 D0', 'words extra source', 2),
     refused('no program', 'run D0', 'words missing program', 2),
     refused('another program', 'run --program fast --source 0 D0', 'words range program', 2),
     refused('no source', 'run --program bfs D0', 'words missing source', 2),
@@ -134,6 +141,20 @@ RUNS = [
         one(TO_FIVE), status=8),
     row('the first of two bad targets', 'ref --program bfs --source 0 D0',
         G1_HEAD + G1_LEVELS.splitlines()[0] + '\nrefused: vertex 1 out entry 0 target 6\n', one(TO_SIX_TOO), status=8),
+    # checks
+    row('a sound image', 'check D0', f'checked {G1_BUILT} drives 1\n'),
+    row('a sound image over three drives', f'check {names(3)}', f'checked {G1_BUILT} drives 3\n', drives_of(G1, 3, 2)),
+    row('a sound image with weights', 'check D0', 'checked vertices 2 out 2 in 2 weighted pages 4 drives 1\n', on(WEIGHTED)),
+    row('an image of nothing', 'check D0', 'checked vertices 0 out 0 in 0 plain pages 2 drives 1\n', on([])),
+    refused('a byte behind the out-lists', 'check D0', 'page 1 padding', 9, with_byte(OUTS + PAGE - 1, 1)),
+    refused('a byte behind the index', 'check D0', 'page 3 padding', 9, with_byte(INDEX + PAGE - 1, 1)),
+    refused('an out-entry that no in-entry mirrors', 'check D0', 'vertex 3 not mirrored', 9, damaged(OUTS + 12, 4)),
+    refused('an out-entry to no vertex', 'check D0', 'vertex 2 out entry 0 target 5', 8, one(TO_FIVE)),
+    refused('a header that is refused', 'check D0', 'bad header', 7, with_byte(HEADER, 0)),
+    refused('an index that is refused', 'check D0', 'bad out index at 0', 7, with_byte(INDEX, 1)),
+    refused('an absent drive', 'check D0', 'drive 0 failed', 5, {}),
+    refused('a program of a check', 'check --program bfs D0', 'words extra program', 2),
+    row('a check that no output takes', 'check D0', '', status=4, output='/dev/full'),
     # the output
     row('an output that takes nothing', BFS, '', status=4, output='/dev/full'),
     row('an output that takes no refusal', 'run D0', '', status=4, output='/dev/full'),

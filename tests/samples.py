@@ -56,5 +56,22 @@ RANK_HEAD = 'program rank vertices 2 out 2 in 2\n'
 RANK_LINES = ['iteration 0 phase 0 active 2 messages 2\n', 'iteration 1 phase 0 active 2 messages 2\n']
 RANK_TEXT = RANK_HEAD + ''.join(RANK_LINES) + 'stopped 2\n0 290979 113639\n1 290979 113639\n'
 
+# each edge of the diamond with its tail both ways
+G1_COMPONENTS = (
+    'program wcc vertices 5 out 5 in 5\n'
+    'iteration 0 phase 0 active 5 messages 10\n'
+    'iteration 1 phase 0 active 4 messages 8\n'
+    'iteration 2 phase 0 active 2 messages 4\n'
+    'iteration 3 phase 0 active 1 messages 1\n'
+    'settled 4\n' + ''.join(f'{v} 0\n' for v in range(5)))
+
+# a triangle with a tail
+KITE = [(0, 1), (1, 2), (2, 0), (2, 3)]
+KITE_TEXT = (
+    'program core vertices 4 out 4 in 4\n'
+    'iteration 0 phase 1 active 1 messages 1\n'
+    'iteration 1 phase 2 active 3 messages 7\n'
+    'settled 2\n0 2\n1 2\n2 2\n3 1\n')
+
 # a page of the image on its only drive, behind the label
 HEADER, OUTS, INS, INDEX = (PAGE * page for page in (1, 2, 3, 4))

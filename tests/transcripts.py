@@ -1,6 +1,7 @@
 """Rows: calls of the program on files in a folder of its own, what each prints, its status and the files it leaves."""
 import fcntl
 import pathlib
+import shlex
 import subprocess
 import tempfile
 import termios
@@ -68,7 +69,7 @@ def feed(program, text, piece):
 
 def run(call, folder):
     """What the call prints, and its status."""
-    command = [str(TOP / 'fg'), *call.words.split()]
+    command = [str(TOP / 'fg'), *shlex.split(call.words)]
     if call.output:
         with open(call.output, 'wb') as out:
             return '', subprocess.run(command, cwd=folder, input=call.input, stdout=out).returncode

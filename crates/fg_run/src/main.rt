@@ -5,9 +5,7 @@ ghost use Rattle.std.specs.Prelude.{◌≡◌, IfOk, length, vec_len};
 
 use fg_base::{Count, Memory};
 use fg_outside::{FileDrive, StdSink, StdSource};
-use fg_top::flash;
-use fg_top::jobs::Job;
-use fg_top::words::{drive_names, input_name, job};
+use fg_top::{Job, JobFault, drive_names, flash, input_name, job};
 use std::alloc::Global;
 use std::fs::File;
 use std::io::{Input, StdinLock};
@@ -29,7 +27,10 @@ fn main(rt: HostRuntime) -> ExitCode {
     let Ok(input) = input_name(alloc, &words) else {
         return ExitCode::from(NO_MEMORY);
     };
-    let builds = matches!(job(alloc, &words), Ok(Job::Build { .. }));
+    let builds = match job(alloc, &words) {
+        Err(JobFault::Memory) => return ExitCode::from(NO_MEMORY),
+        asked => matches!(asked, Ok(Job::Build { .. })),
+    };
     let Ok(mut drives) = open_drives(&rt, alloc, &names, builds) else {
         return ExitCode::from(NO_MEMORY);
     };

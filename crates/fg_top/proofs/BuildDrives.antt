@@ -13,9 +13,10 @@ use Rattle.fg_outside.specs.Pages.{HasRoom}
 use Rattle.fg_outside.proofs.DriveLemmas.{EachDrive-both, EachDrive-length, EachDrive-numbered, EachDriveFrom-more, EachDriveFrom-weaker, EachSame-more, RoseFirst-after}
 use Rattle.fg_report.specs.Refusals.{refusal_line}
 use Rattle.fg_text.specs.Text.{read_text}
-use Rattle.fg_top.specs.BuildOutcome.{BuildComesTo, Input, built_line}
+use Rattle.fg_top.specs.BuildOutcome.{BuildComesTo, built_line}
 use Rattle.fg_top.specs.Built.{AreBuilt, AreBuiltAsWritten, AreLeft, AreOfText, BuildLeaves, IsKeptBy, IsKeptByBuild, MayBuild}
-use Rattle.fg_top.specs.Ends.{IsCause, IsWritten, Output}
+use Rattle.fg_top.specs.Calls.{Input, Output}
+use Rattle.fg_top.specs.Ends.{IsCause, IsWritten}
 use Rattle.fg_top.proofs.BuildEnds.{cut_build}
 
 -- what was appended to drives that were only looked at before

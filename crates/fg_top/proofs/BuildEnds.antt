@@ -10,8 +10,9 @@ use Rattle.fg_outside.specs.Drives.{NoneRose, all_told}
 use Rattle.fg_report.specs.Refusals.{refusal_line}
 use Rattle.fg_text.specs.Read.{ReadRefused}
 use Rattle.fg_text.specs.Text.{read_text}
-use Rattle.fg_top.specs.BuildOutcome.{BuildComesTo, built_line, ClosesByDrives, ClosesByText, Input, MayCloseText, close_of_text, input_over}
+use Rattle.fg_top.specs.BuildOutcome.{BuildComesTo, built_line, ClosesByDrives, ClosesByText, MayCloseText, close_of_text}
 use Rattle.fg_top.specs.Built.{AreOfText, MayBuild}
+use Rattle.fg_top.specs.Calls.{Input, input_over}
 use Rattle.fg_top.specs.Ends.{IsCause, IsCutShort, IsOutcome}
 use Rattle.fg_top.specs.Outcome.{Close, Done, Refuses, at_once}
 
@@ -35,10 +36,10 @@ some_text drives undirected (Some bytes) = (close_of_text drives (read_text undi
 some_close : (drives : ℕ) (undirected : Bool) (told : Option (List (List ℕ))) (input : Input) → IfSome told (λ helds. length helds ≡ drives) →
     input.new_faults ≡ input.old_faults → (close : Close) × ClosesByDrives drives undirected told input close
 some_close drives undirected None input many stood =
-    let text = some_text drives undirected input.left in
+    let text = some_text drives undirected input.old_left in
     (text.0, inr (tt, inr (stood, text.1)))
 some_close drives undirected (Some helds) input many stood =
-    let text = some_text drives undirected input.left in
+    let text = some_text drives undirected input.old_left in
     ⊎_elim
     (λ (first : HasFirstFull helds). (Refuses (Refusal.NotEmpty first.0), inl (first.0, omega (arith, many, first.1), first.2, refl)))
     (λ empty. (text.0, inr (empty, inr (stood, text.1))))
@@ -75,31 +76,31 @@ closes_text drives undirected (Some bytes) refusal may says = sym (ap (close_of_
 
 text_refused : {D : Type 0} (faults : D → ℕ) (olds news : List D) (drives : ℕ) (undirected : Bool) (told : Option (List (List ℕ))) (input : Input) (refusal : Refusal) →
     NoneRose faults olds news → IfSome told AreEmpty → MayCloseText drives (Refuses refusal) → input.new_faults ≡ input.old_faults →
-    IfSome input.left (λ bytes. read_text undirected bytes ≡ Err refusal) →
+    IfSome input.old_left (λ bytes. read_text undirected bytes ≡ Err refusal) →
     NoneRose faults olds news × IsOutcome (BuildComesTo drives undirected told input) (Refuses refusal) (refusal_line refusal) (refusal_line refusal)
 text_refused faults olds news drives undirected told input refusal kept empty may stood says = (
   kept,
-  closes_so drives undirected told input (Refuses refusal) (refusal_line refusal) (inr (empty, inr (stood, closes_text drives undirected input.left refusal may says))),
+  closes_so drives undirected told input (Refuses refusal) (refusal_line refusal) (inr (empty, inr (stood, closes_text drives undirected input.old_left refusal may says))),
 )
 
 -- why a text wasn't read
 pub cause_of_text : {D : Type 0} (faults : D → ℕ) (olds news : List D) (drives : ℕ) (undirected : Bool) (told : Option (List (List ℕ))) (old new : Option (List ℕ)) (before after : ℕ)
     (refusal : Refusal) → IfSome told (λ helds. length helds ≡ drives) → NoneRose faults olds news → IfSome told AreEmpty → ReadRefused undirected old new before after refusal →
-    IsCause faults olds news (BuildComesTo drives undirected told (input_over old before after)) (Some refusal) (refusal_line refusal)
+    IsCause faults olds news (BuildComesTo drives undirected told (input_over old new before after)) (Some refusal) (refusal_line refusal)
 cause_of_text faults olds news drives undirected told old new before after Refusal.Memory many kept empty why =
-    (kept, cut_build drives undirected told (input_over old before after) (refusal_line Refusal.Memory) many why)
+    (kept, cut_build drives undirected told (input_over old new before after) (refusal_line Refusal.Memory) many why)
 cause_of_text faults olds news drives undirected told old new before after Refusal.InputFault many kept empty why = (
   kept,
-  closes_so drives undirected told (input_over old before after) (Refuses Refusal.InputFault) (refusal_line Refusal.InputFault) (inr (empty, inl (why.1, refl))),
+  closes_so drives undirected told (input_over old new before after) (Refuses Refusal.InputFault) (refusal_line Refusal.InputFault) (inr (empty, inl (why.1, refl))),
 )
 cause_of_text faults olds news drives undirected told old new before after (Refusal.BadLine line) many kept empty why =
-    text_refused faults olds news drives undirected told (input_over old before after) (Refusal.BadLine line) kept empty tt why.0 why.1.says
+    text_refused faults olds news drives undirected told (input_over old new before after) (Refusal.BadLine line) kept empty tt why.0 why.1.says
 cause_of_text faults olds news drives undirected told old new before after (Refusal.IdTooLarge line) many kept empty why =
-    text_refused faults olds news drives undirected told (input_over old before after) (Refusal.IdTooLarge line) kept empty tt why.0 why.1.says
+    text_refused faults olds news drives undirected told (input_over old new before after) (Refusal.IdTooLarge line) kept empty tt why.0 why.1.says
 cause_of_text faults olds news drives undirected told old new before after (Refusal.TooManyEdges line) many kept empty why =
-    text_refused faults olds news drives undirected told (input_over old before after) (Refusal.TooManyEdges line) kept empty tt why.0 why.1.says
+    text_refused faults olds news drives undirected told (input_over old new before after) (Refusal.TooManyEdges line) kept empty tt why.0 why.1.says
 cause_of_text faults olds news drives undirected told old new before after Refusal.TextTooLong many kept empty why =
-    text_refused faults olds news drives undirected told (input_over old before after) Refusal.TextTooLong kept empty tt why.0 why.1
+    text_refused faults olds news drives undirected told (input_over old new before after) Refusal.TextTooLong kept empty tt why.0 why.1
 cause_of_text faults olds news drives undirected told old new before after refusal many kept empty why = absurd why
 
 -- neither answers for the output
@@ -148,4 +149,4 @@ closes_built drives undirected (Some bytes) edges of_text = sym (ap (close_of_te
 
 pub comes_built : {D : Type 0} (held : D → Option (List ℕ)) (drives : ℕ) (undirected : Bool) (input : Input) (olds : List D) (edges : EdgeList) →
     MayBuild held undirected input olds edges → BuildComesTo drives undirected (all_told held olds) input (at_once (Done (built_line drives edges)))
-comes_built held drives undirected input olds edges may = (refl, inr (may.empty, inr (may.stood, closes_built drives undirected input.left edges may.of_text)))
+comes_built held drives undirected input olds edges may = (refl, inr (may.empty, inr (may.stood, closes_built drives undirected input.old_left edges may.of_text)))

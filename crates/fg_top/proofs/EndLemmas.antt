@@ -11,9 +11,10 @@ use Rattle.fg_base.proofs.ToldLemmas.{grown-grown}
 use Rattle.fg_outside.specs.Drives.{NoneRose, RoseFirst}
 use Rattle.fg_outside.proofs.DriveLemmas.{EachSame-more, RoseFirst-after}
 use Rattle.fg_report.specs.Refusals.{refusal_line}
-use Rattle.fg_top.specs.Ends.{Ends, EndsAlone, EndsLeaving, IsCause, IsCutShort, IsOutcome, IsWritten, Output, output_between}
+use Rattle.fg_top.specs.Calls.{Output, output_over}
+use Rattle.fg_top.specs.Ends.{Ends, EndsAlone, EndsLeaving, IsCause, IsCutShort, IsOutcome, IsWritten}
 use Rattle.fg_top.specs.Outcome.{Close, Done, Outcome, at_once}
-use Rattle.fg_top.specs.Tallies.{CameToEnd}
+use Rattle.fg_top.specs.Statuses.{CameToEnd}
 
 -- an outcome with these texts before its own
 abbrev pub behind : List (List ℕ) → Outcome → Outcome
@@ -29,8 +30,8 @@ led_texts first lines last text is =
 
 -- a text that was written behind another
 pub written_behind : (f0 f1 f2 : ℕ) (t0 t1 t2 : Option (List ℕ)) (back : Bool) (end : Option Refusal) (first text : List ℕ) (status : ℕ) →
-    f1 ≡ f0 → t1 ≡ grown t0 first → IsWritten (output_between f1 f2 t1 t2 back) end text status →
-    IsWritten (output_between f0 f2 t0 t2 back) end (first ++ text) status
+    f1 ≡ f0 → t1 ≡ grown t0 first → IsWritten (output_over f1 f2 t1 t2 back) end text status →
+    IsWritten (output_over f0 f2 t0 t2 back) end (first ++ text) status
 written_behind f0 f1 f2 t0 t1 t2 back end first text status kept grew written =
     let From : ℕ → Type 0 = λ old. Rose old f2 in
     let After : Option (List ℕ) → Type 0 = λ told. GrewByFirst text told t2 in
@@ -113,8 +114,8 @@ ends_in_memory faults olds news comes other leaves output status more kept left 
 pub ends_behind : {D : Type 0} (faults : D → ℕ) (olds betweens news : List D) (comes other : Outcome → Type 0) (own leaves : Option Refusal → Type 0) (first : List (List ℕ))
     (f0 f1 f2 : ℕ) (t0 t1 t2 : Option (List ℕ)) (back : Bool) (status : ℕ) →
     ((outcome : Outcome) → comes outcome → other (behind first outcome)) → NoneRose faults olds betweens → ((end : Option Refusal) → leaves end) →
-    f1 ≡ f0 → t1 ≡ grown t0 (concat first) → Ends faults betweens news comes own (output_between f1 f2 t1 t2 back) status →
-    Ends faults olds news other leaves (output_between f0 f2 t0 t2 back) status
+    f1 ≡ f0 → t1 ≡ grown t0 (concat first) → Ends faults betweens news comes own (output_over f1 f2 t1 t2 back) status →
+    Ends faults olds news other leaves (output_over f0 f2 t0 t2 back) status
 ends_behind faults olds betweens news comes other own leaves first f0 f1 f2 t0 t1 t2 back status more kept left same grew ends = record {
   end = ends.end;
   text = concat first ++ ends.text;
@@ -127,7 +128,7 @@ ends_behind faults olds betweens news comes other own leaves first f0 f1 f2 t0 t
 pub ends_given_up : {D : Type 0} (faults : D → ℕ) (olds news : List D) (comes : Outcome → Type 0) (leaves : Option Refusal → Type 0) (outcome : Outcome) (count : ℕ)
     (f0 f1 : ℕ) (t0 t1 : Option (List ℕ)) (back : Bool) (status : ℕ) → comes outcome → NoneRose faults olds news → leaves (Some Refusal.Memory) → Rose f0 f1 →
     GrewByFirst (concat (take count outcome.lines)) t0 t1 → status ≡ 4 →
-    Ends faults olds news comes leaves (output_between f0 f1 t0 t1 back) status
+    Ends faults olds news comes leaves (output_over f0 f1 t0 t1 back) status
 ends_given_up faults olds news comes leaves outcome count f0 f1 t0 t1 back status is kept left rose grew failed = record {
   end = Some Refusal.Memory;
   text = concat (take count outcome.lines) ++ refusal_line Refusal.Memory;

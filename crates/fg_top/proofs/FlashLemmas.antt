@@ -1,54 +1,29 @@
--- A call for words, by what they ask for.
-use Rattle.std.proofs.Common.{◌≡◌, ◌≢◌, ℕ, [], true, false, Option, None, Some, IfSome, IsSome, Result, Ok, Err, List, length, refl, sym, subst, inl}
-use Rattle.fg_base.proofs.GrowthLemmas.{led_by_none}
+-- Calls that touch neither drives nor source: words that are refused, and jobs that need none.
+use Rattle.std.proofs.Common.{◌≡◌, ◌≢◌, ℕ, [], true, Option, None, Some, IfSome, IsSome, Result, Ok, Err, List, length, refl, sym, subst, arith}
 use Rattle.fg_base.specs.declared.refusal.Refusal.{Refusal}
 use Rattle.fg_base.specs.declared.refusal.WordFault.{WordFault}
-use Rattle.fg_build.specs.Layouts.{plan_of}
-use Rattle.fg_build.specs.OpeningReads.{opening_reads}
-use Rattle.fg_outside.specs.declared.drive.Read.{Read}
-use Rattle.fg_outside.specs.Drives.{EachSame, RoomyKept}
-use Rattle.fg_outside.proofs.DriveLemmas.{EachDrive-same, LogsGrew-none, LogsGrewByFirst-none}
+use Rattle.fg_outside.specs.declared.drive.Drive.{Ghosts as DriveGhosts}
+use Rattle.fg_outside.specs.Drives.{EachSame, LogsGrew, RoomyKept, all_told}
+use Rattle.fg_outside.proofs.DriveLemmas.{EachDrive-same, LogsGrew-none}
 use Rattle.fg_report.specs.Refusals.{refusal_line}
 use Rattle.fg_text.specs.Generator.{generated_text}
-use Rattle.fg_top.specs.declared.jobs.Job.{Job}
-use Rattle.fg_top.specs.declared.jobs.JobFault.{JobFault}
-use Rattle.fg_top.specs.BuildOutcome.{Input, input_over}
-use Rattle.fg_top.specs.Ends.{EndsLeaving, IsCutShort, IsWritten, Output}
-use Rattle.fg_top.specs.GenOutcome.{IsGenerated}
-use Rattle.fg_top.specs.JobLeaves.{CountsInput, KeepsBy, LeavesAt, LeavesBy, RefusesAsTold, StopsBy, TakesBy}
-use Rattle.fg_top.specs.JobOutcome.{ComesTo, GivenComesTo, JobComesTo}
-use Rattle.fg_top.specs.Jobs.{HasDrives}
-use Rattle.fg_top.specs.LargeOutcome.{generated_graph, recipe_for}
-use Rattle.fg_top.specs.Outcome.{Done, Refuses, at_once, outcome_on, wish_for}
-use Rattle.fg_top.specs.Reads.{KeepsLogsBy, ReadsBy, ref_reads}
-use Rattle.fg_top.specs.Running.{words_refusal}
-use Rattle.fg_top.specs.Words.{IsJobOf, job_of, names_of}
-use Rattle.fg_top.proofs.BuildDrives.{kept_unbuilt, leaves_held}
-use Rattle.fg_top.proofs.BuildEnds.{cut_build}
-use Rattle.fg_top.proofs.OutcomeLemmas.{cut_at_once}
-use Rattle.fg_top.proofs.WordJobs.{named_drives}
-
--- words for which memory was wanting, where nothing was read
-cut_given : (given : Result Job WordFault) (drives : ℕ) (told : Option (List (List ℕ))) (left : Option (List ℕ)) (faults : ℕ) (last : List ℕ) →
-    IfSome told (λ helds. length helds ≡ drives) → IsCutShort (GivenComesTo given drives told (input_over left faults faults)) last last
-cut_given (Err fault) drives told left faults last many = record { outcome = at_once (Refuses (Refusal.Words fault)); is_one = refl; count = 0; text_is = refl }
-cut_given (Ok (Job.Build unit number undirected)) drives told left faults last many =
-    let cut = cut_build drives undirected told (input_over left faults faults) last many refl in
-    record { outcome = cut.outcome; is_one = cut.is_one; count = cut.count; text_is = cut.text_is }
-cut_given (Ok (Job.Run pick max each quiet)) drives told left faults last many =
-    let cut = cut_at_once (wish_for pick max each quiet) told last in
-    record { outcome = cut.outcome; is_one = cut.is_one; count = cut.count; text_is = cut.text_is }
-cut_given (Ok (Job.Ref pick max each quiet)) drives told left faults last many =
-    let cut = cut_at_once (wish_for pick max each quiet) told last in
-    record { outcome = cut.outcome; is_one = cut.is_one; count = cut.count; text_is = cut.text_is }
-cut_given (Ok (Job.Gen start nodes edges)) drives told left faults last many =
-    record { outcome = at_once (Done (generated_text start nodes edges)); is_one = refl; count = 0; text_is = refl }
-cut_given (Ok (Job.Large pick max unit undirected start nodes edges made)) drives told left faults last many = record {
-  outcome = outcome_on (wish_for pick max false true) (generated_graph (recipe_for start nodes edges undirected));
-  is_one = refl;
-  count = 0;
-  text_is = refl;
-}
+use Rattle.fg_words.specs.declared.jobs.Job.{Job}
+use Rattle.fg_words.specs.declared.jobs.Recipe.{Recipe}
+use Rattle.fg_top.specs.declared.wish.Wish.{Wish}
+use Rattle.fg_top.specs.Calls.{Call, Output, input_over, tallied}
+use Rattle.fg_top.specs.Ends.{EndsAlone, IsWritten, LeavesHeld}
+use Rattle.fg_top.specs.GenJob.{GenComesTo, gen_promise}
+use Rattle.fg_top.specs.JobPromises.{promise_by, promise_of}
+use Rattle.fg_words.specs.Jobs.{HasDrives, is_still}
+use Rattle.fg_top.specs.Keeping.{Keeps, KeepsDrives, KeepsInput, KeepsReads, KeepsTally}
+use Rattle.fg_top.specs.LargeJob.{LargeComesTo, MeansGenerated, large_promise}
+use Rattle.fg_top.specs.Outcome.{Outcome, Refuses, at_once}
+use Rattle.fg_top.specs.Promise.{left_alone, standing, unread, untaken}
+use Rattle.fg_top.specs.Statuses.{CameToEnd}
+use Rattle.fg_top.specs.Tallies.{Stood}
+use Rattle.fg_words.specs.Words.{job_of, names_of}
+use Rattle.fg_top.proofs.EndLemmas.{ends_in_memory, refused_status}
+use Rattle.fg_top.proofs.TallyLemmas.{nothing_began}
 
 -- nothing happened to the drives
 pub held_same : {D A : Type 0} (of : D → A) (olds : List D) → EachSame of olds olds
@@ -57,140 +32,125 @@ held_same of olds = EachDrive-same (λ old new. of new ≡ of old) (λ drive. re
 pub roomy_same : {D : Type 0} (room : D → Option ℕ) (faults : D → ℕ) (olds : List D) → RoomyKept room faults olds olds
 roomy_same room faults olds = EachDrive-same (λ old new. IsSome (room old) → faults new ≡ faults old) (λ drive told. refl) olds
 
--- whatever refuses the work, a job may leave them so
-pub leaves_refused_at : {D : Type 0} (held : D → Option (List ℕ)) (faults : D → ℕ) (given : Result Job WordFault) (input : Input) (olds : List D) (refusal : Refusal) (text : List ℕ) →
-    LeavesAt held faults given input olds olds (Some refusal) text
-leaves_refused_at held faults (Err fault) input olds refusal text = held_same held olds
-leaves_refused_at held faults (Ok (Job.Build unit number undirected)) input olds refusal text =
-    leaves_held held faults (plan_of (length olds) unit number) undirected input olds olds refusal text (held_same held olds)
-leaves_refused_at held faults (Ok (Job.Run pick max each quiet)) input olds refusal text = held_same held olds
-leaves_refused_at held faults (Ok (Job.Ref pick max each quiet)) input olds refusal text = held_same held olds
-leaves_refused_at held faults (Ok (Job.Gen start nodes edges)) input olds refusal text = held_same held olds
-leaves_refused_at held faults (Ok (Job.Large pick max unit undirected start nodes edges drives)) input olds refusal text = held_same held olds
-
--- the end where the words give no job
-pub ends_unread : {D : Type 0} (held : D → Option (List ℕ)) (faults : D → ℕ) (words : List (List ℕ)) (drives : ℕ) (told : Option (List (List ℕ))) (left : Option (List ℕ)) (count : ℕ) (fault : JobFault)
-    (olds : List D) (output : Output) (status : ℕ) → IfSome told (λ helds. length helds ≡ drives) → IsJobOf words (Err fault) →
-    IsWritten output (Some (words_refusal fault)) (refusal_line (words_refusal fault)) status →
-    EndsLeaving faults olds olds (ComesTo words drives told (input_over left count count)) (LeavesAt held faults (job_of words) (input_over left count count) olds olds) output status
-ends_unread held faults words drives told left count JobFault.Memory olds output status many is written = record {
-  end = Some Refusal.Memory;
-  text = refusal_line Refusal.Memory;
-  cause = (held_same faults olds, cut_given (job_of words) drives told left count (refusal_line Refusal.Memory) many);
-  left = leaves_refused_at held faults (job_of words) (input_over left count count) olds Refusal.Memory (refusal_line Refusal.Memory);
-  written = written;
-}
-ends_unread held faults words drives told left count (JobFault.Words fault) olds output status many is written =
-    let P : Result Job WordFault → Type 0 = λ given. GivenComesTo given drives told (input_over left count count) (at_once (Refuses (Refusal.Words fault))) in
-    record {
-      end = Some (Refusal.Words fault);
-      text = refusal_line (Refusal.Words fault);
-      cause = (
-        held_same faults olds,
-        record { outcome = at_once (Refuses (Refusal.Words fault)); is_one = subst P (sym is) refl; closes = refl; text_is = refl },
-      );
-      left = leaves_refused_at held faults (job_of words) (input_over left count count) olds (Refusal.Words fault) (refusal_line (Refusal.Words fault));
-      written = written;
-    }
-
--- words that give no job don't generate edges, since reading them takes no memory
-pub generates_nothing : (words : List (List ℕ)) (fault : JobFault) (output : Output) (status : ℕ) → IsJobOf words (Err fault) → fault ≢ JobFault.Memory →
-    IsGenerated (job_of words) output status
-generates_nothing words JobFault.Memory output status is no_memory = absurd (no_memory refl)
-generates_nothing words (JobFault.Words fault) output status is no_memory =
-    let P : Result Job WordFault → Type 0 = λ given. IsGenerated given output status in
-    subst P (sym is) tt
-
--- nor read a text
-pub stops_nothing : (words : List (List ℕ)) (fault : JobFault) (old new : Option (List ℕ)) (before after : ℕ) → IsJobOf words (Err fault) → fault ≢ JobFault.Memory →
-    StopsBy (job_of words) old new before after
-stops_nothing words JobFault.Memory old new before after is no_memory = absurd (no_memory refl)
-stops_nothing words (JobFault.Words fault) old new before after is no_memory =
-    let P : Result Job WordFault → Type 0 = λ given. StopsBy given old new before after in
-    subst P (sym is) tt
-
-pub words_not_told : {D : Type 0} (told : D → ℕ) (words : List (List ℕ)) (fault : JobFault) (olds news : List D) → IsJobOf words (Err fault) → fault ≢ JobFault.Memory →
-    RefusesAsTold told (job_of words) olds news
-words_not_told told words JobFault.Memory olds news is no_memory = absurd (no_memory refl)
-words_not_told told words (JobFault.Words fault) olds news is no_memory =
-    let P : Result Job WordFault → Type 0 = λ given. RefusesAsTold told given olds news in
-    subst P (sym is) tt
-
--- drives to which nothing happened are as each job may leave them
-pub leaves_nothing : {D : Type 0} (held : D → Option (List ℕ)) (faults : D → ℕ) (given : Result Job WordFault) (input : Input) (olds : List D) →
-    LeavesBy held faults given input olds olds
-leaves_nothing held faults (Err fault) input olds = held_same held olds
-leaves_nothing held faults (Ok (Job.Build unit number undirected)) input olds = inl (held_same held olds)
-leaves_nothing held faults (Ok (Job.Run pick max each quiet)) input olds = held_same held olds
-leaves_nothing held faults (Ok (Job.Ref pick max each quiet)) input olds = held_same held olds
-leaves_nothing held faults (Ok (Job.Gen start nodes edges)) input olds = held_same held olds
-leaves_nothing held faults (Ok (Job.Large pick max unit undirected start nodes edges drives)) input olds = held_same held olds
-
-pub keeps_nothing : {D : Type 0} (room : D → Option ℕ) (faults : D → ℕ) (given : Result Job WordFault) (left : Option (List ℕ)) (olds : List D) →
-    KeepsBy room faults given left olds olds
-keeps_nothing room faults (Err fault) left olds = roomy_same room faults olds
-keeps_nothing room faults (Ok (Job.Build unit number undirected)) left olds =
-    kept_unbuilt room faults (plan_of (length olds) unit number) undirected left olds olds (roomy_same room faults olds)
-keeps_nothing room faults (Ok (Job.Run pick max each quiet)) left olds = roomy_same room faults olds
-keeps_nothing room faults (Ok (Job.Ref pick max each quiet)) left olds = roomy_same room faults olds
-keeps_nothing room faults (Ok (Job.Gen start nodes edges)) left olds = roomy_same room faults olds
-keeps_nothing room faults (Ok (Job.Large pick max unit undirected start nodes edges drives)) left olds = roomy_same room faults olds
-
--- no job reads anything where nothing was read
-pub reads_nothing : {D : Type 0} (log : D → Option (List Read)) (given : Result Job WordFault) (told : Option (List (List ℕ))) (olds : List D) →
-    IfSome told (λ helds. ReadsBy log given helds olds olds)
-reads_nothing log given None olds = tt
-reads_nothing {D} log given (Some helds) olds = nothing given where
-  nothing : (given : Result Job WordFault) → ReadsBy log given helds olds olds
-  nothing (Err fault) = LogsGrew-none log olds
-  nothing (Ok (Job.Build unit number undirected)) = LogsGrew-none log olds
-  nothing (Ok (Job.Run pick max each quiet)) = inl (LogsGrewByFirst-none log (opening_reads helds) olds)
-  nothing (Ok (Job.Ref pick max each quiet)) = LogsGrewByFirst-none log (ref_reads (wish_for pick max each quiet) helds) olds
-  nothing (Ok (Job.Gen start nodes edges)) = LogsGrew-none log olds
-  nothing (Ok (Job.Large pick max unit undirected start nodes edges drives)) = LogsGrew-none log olds
-
-pub logs_nothing : {D : Type 0} (log : D → Option (List Read)) (given : Result Job WordFault) (olds : List D) → KeepsLogsBy log given olds olds
-logs_nothing log (Err fault) olds = held_same log olds
-logs_nothing log (Ok (Job.Build unit number undirected)) olds = held_same log olds
-logs_nothing log (Ok (Job.Run pick max each quiet)) olds = tt
-logs_nothing log (Ok (Job.Ref pick max each quiet)) olds = tt
-logs_nothing log (Ok (Job.Gen start nodes edges)) olds = held_same log olds
-logs_nothing log (Ok (Job.Large pick max unit undirected start nodes edges drives)) olds = held_same log olds
-
--- nor takes anything of the input
-pub takes_nothing : (given : Result Job WordFault) (left : Option (List ℕ)) → TakesBy given left left
-takes_nothing (Err fault) left = refl
-takes_nothing (Ok (Job.Build unit number undirected)) left = ([], sym (led_by_none left))
-takes_nothing (Ok (Job.Run pick max each quiet)) left = refl
-takes_nothing (Ok (Job.Ref pick max each quiet)) left = refl
-takes_nothing (Ok (Job.Gen start nodes edges)) left = refl
-takes_nothing (Ok (Job.Large pick max unit undirected start nodes edges drives)) left = refl
-
-pub counts_nothing : (given : Result Job WordFault) (faults status : ℕ) → CountsInput given faults faults status
-counts_nothing (Err fault) faults status = refl
-counts_nothing (Ok (Job.Build unit number undirected)) faults status = inl refl
-counts_nothing (Ok (Job.Run pick max each quiet)) faults status = refl
-counts_nothing (Ok (Job.Ref pick max each quiet)) faults status = refl
-counts_nothing (Ok (Job.Gen start nodes edges)) faults status = refl
-counts_nothing (Ok (Job.Large pick max unit undirected start nodes edges drives)) faults status = refl
-
--- the end of the job is the end of the call
-pub ends_given : {D : Type 0} (held : D → Option (List ℕ)) (faults : D → ℕ) (words : List (List ℕ)) (drives : ℕ) (told : Option (List (List ℕ))) (input : Input) (job : Job) (olds news : List D)
-    (output : Output) (status : ℕ) → job_of words ≡ Ok job →
-    EndsLeaving faults olds news (JobComesTo job drives told input) (LeavesAt held faults (Ok job) input olds news) output status →
-    EndsLeaving faults olds news (ComesTo words drives told input) (LeavesAt held faults (job_of words) input olds news) output status
-ends_given held faults words drives told input job olds news output status is ends =
-    let P : Result Job WordFault → Type 0 = λ given. EndsLeaving faults olds news (GivenComesTo given drives told input) (LeavesAt held faults given input olds news) output status in
-    subst P (sym is) ends
-
--- an accepted job has the drives that it works on
-pub drives_fit : {D : Type 0} (drives : List D) (words : List (List ℕ)) (job : Job) → length drives ≡ length (names_of words) → job_of words ≡ Ok job →
-    HasDrives job (length drives)
-drives_fit drives words job named is =
-    let P : ℕ → Type 0 = λ count. HasDrives job count in
-    subst P (sym named) (named_drives words job is)
-
 -- a fact that doesn't speak of what is told
 pub always : {A : Type 0} (told : Option A) (P : Type 0) → P → IfSome told (λ one. P)
 always None P holds = tt
 always (Some one) P holds = holds
+
+-- a call that touches neither drives nor source
+abbrev pub untouched : {D : Type 0} → DriveGhosts D → List D → Option (List ℕ) → ℕ → Output → ℕ → Call D
+untouched tells olds left faults output status =
+    record { tells = tells; olds = olds; news = olds; input = input_over left left faults faults; output = output; status = status }
+
+drives_same : {D : Type 0} (tells : DriveGhosts D) (olds : List D) (left : Option (List ℕ)) (faults : ℕ) (output : Output) (status : ℕ) →
+    KeepsDrives left_alone (untouched tells olds left faults output status)
+drives_same tells olds left faults output status = record {
+  drives = held_same tells.held olds;
+  done = λ done. held_same tells.held olds;
+  undone = λ refused. held_same tells.held olds;
+  told = λ refused. tt;
+  sure = roomy_same tells.room tells.faults olds;
+}
+
+reads_none : {D : Type 0} (tells : DriveGhosts D) (olds : List D) (left : Option (List ℕ)) (faults : ℕ) (output : Output) (status : ℕ) →
+    KeepsReads unread (untouched tells olds left faults output status)
+reads_none tells olds left faults output status =
+    let none = always (all_told tells.held olds) (LogsGrew tells.log [] olds olds) (LogsGrew-none tells.log olds) in
+    record { reads = none; all_read = λ done. none; logs = held_same tells.log olds }
+
+pub takes_none : (left : Option (List ℕ)) (faults status : ℕ) → KeepsInput untaken (input_over left left faults faults) status
+takes_none left faults status = record {
+  taken = refl;
+  unread = λ refused. refl;
+  stops = λ refused. tt;
+  ended = λ done. tt;
+  faults = refl;
+  later = omega arith;
+}
+
+-- a job without drives, of one text or of a run on generated edges
+pub keeps_generated : {D : Type 0} (start nodes edges : ℕ) (tells : DriveGhosts D) (olds : List D) (left : Option (List ℕ)) (faults : ℕ) (output : Output) (status : ℕ) →
+    EndsAlone (GenComesTo start nodes edges) output status → IsWritten output None (generated_text start nodes edges) status →
+    Keeps (gen_promise start nodes edges) (untouched tells olds left faults output status)
+keeps_generated start nodes edges tells olds left faults output status ends written =
+    let comes = GenComesTo start nodes edges in
+    record {
+      ends = ends_in_memory tells.faults olds olds comes comes (LeavesHeld tells.held olds olds) output status (λ outcome is. is) (held_same tells.faults olds)
+          (λ end. held_same tells.held olds) ends;
+      written = written;
+      drives = drives_same tells olds left faults output status;
+      reads = reads_none tells olds left faults output status;
+      input = takes_none left faults status;
+      meaning = λ done. always (all_told tells.held olds) (Unit {0}) tt;
+    }
+
+pub keeps_large : {D : Type 0} (wish : Wish) (recipe : Recipe) (tells : DriveGhosts D) (olds : List D) (left : Option (List ℕ)) (faults : ℕ) (output : Output) (status : ℕ) →
+    EndsAlone (LargeComesTo wish recipe) output status → (status ≡ 0 → MeansGenerated wish recipe) →
+    Keeps (large_promise wish recipe) (untouched tells olds left faults output status)
+keeps_large wish recipe tells olds left faults output status ends means =
+    let comes = LargeComesTo wish recipe in
+    record {
+      ends = ends_in_memory tells.faults olds olds comes comes (LeavesHeld tells.held olds olds) output status (λ outcome is. is) (held_same tells.faults olds)
+          (λ end. held_same tells.held olds) ends;
+      written = tt;
+      drives = drives_same tells olds left faults output status;
+      reads = reads_none tells olds left faults output status;
+      input = takes_none left faults status;
+      meaning = λ done. always (all_told tells.held olds) (MeansGenerated wish recipe) (means done);
+    }
+
+-- words that are wrong
+pub keeps_wrong : {D : Type 0} (words : List (List ℕ)) (fault : WordFault) (tells : DriveGhosts D) (olds : List D) (left : Option (List ℕ)) (faults : ℕ) (output : Output) (status : ℕ) →
+    job_of words ≡ Err fault → IsWritten output (Some (Refusal.Words fault)) (refusal_line (Refusal.Words fault)) status →
+    Keeps (promise_by (job_of words)) (untouched tells olds left faults output status)
+keeps_wrong {D} words fault tells olds left faults output status is written =
+    let P : Result Job WordFault → Type 0 = λ given. Keeps (promise_by given) (untouched tells olds left faults output status) in
+    let never : status ≡ 0 → ⊥ = refused_status output (Refusal.Words fault) (refusal_line (Refusal.Words fault)) status written in
+    let outcome : Outcome = at_once (Refuses (Refusal.Words fault)) in
+    let drives = drives_same tells olds left faults output status in
+    let reads = reads_none tells olds left faults output status in
+    subst P (sym is) (record {
+      ends = record {
+        end = Some (Refusal.Words fault);
+        text = refusal_line (Refusal.Words fault);
+        cause = (held_same tells.faults olds, record { outcome = outcome; is_one = refl; closes = refl; text_is = refl });
+        left = held_same tells.held olds;
+        written = written;
+      };
+      written = tt;
+      drives = record { drives = drives.drives; done = λ done. never done; undone = drives.undone; told = drives.told; sure = drives.sure };
+      reads = record { reads = reads.reads; all_read = λ done. absurd (never done); logs = reads.logs };
+      input = takes_none left faults status;
+      meaning = λ done. absurd (never done);
+    })
+
+-- the tally of a call that runs nothing
+stands : (told : Option (List (List ℕ))) (runs entries status : ℕ) → KeepsTally standing told (tallied runs runs entries entries) status
+stands told runs entries status =
+    let stood : Stood (tallied runs runs entries entries) = record { runs = refl; entries = refl } in
+    record { risen = λ done. always told (Stood (tallied runs runs entries entries)) stood; went = nothing_began told (CameToEnd status) runs entries; stood = stood }
+
+pub tally_still : (D : Type 0) (job : Job) (told : Option (List (List ℕ))) (runs entries status : ℕ) → is_still job ≡ true →
+    KeepsTally (promise_of {D = D} job).of_tally told (tallied runs runs entries entries) status
+tally_still D (Job.Build unit number undirected) told runs entries status still = stands told runs entries status
+tally_still D (Job.Run pick max each quiet) told runs entries status still = cc
+tally_still D (Job.Ref pick max each quiet) told runs entries status still = stands told runs entries status
+tally_still D Job.Check told runs entries status still = stands told runs entries status
+tally_still D (Job.Gen start nodes edges) told runs entries status still = stands told runs entries status
+tally_still D (Job.Large pick max unit undirected start nodes edges drives) told runs entries status still = cc
+
+pub tally_wrong : (D : Type 0) (words : List (List ℕ)) (fault : WordFault) (told : Option (List (List ℕ))) (output : Output) (runs entries status : ℕ) →
+    job_of words ≡ Err fault → IsWritten output (Some (Refusal.Words fault)) (refusal_line (Refusal.Words fault)) status →
+    KeepsTally (promise_by {D = D} (job_of words)).of_tally told (tallied runs runs entries entries) status
+tally_wrong D words fault told output runs entries status is written =
+    let P : Result Job WordFault → Type 0 = λ given. KeepsTally (promise_by {D = D} given).of_tally told (tallied runs runs entries entries) status in
+    let never : status ≡ 0 → ⊥ = refused_status output (Refusal.Words fault) (refusal_line (Refusal.Words fault)) status written in
+    let kept = stands told runs entries status in
+    subst P (sym is) (record { risen = λ done. absurd (never done); went = kept.went; stood = kept.stood })
+
+-- an accepted job has the drives that it works on
+pub drives_fit : {D : Type 0} (drives : List D) (words : List (List ℕ)) (job : Job) → length drives ≡ length (names_of words) → HasDrives job (length (names_of words)) →
+    HasDrives job (length drives)
+drives_fit drives words job named has =
+    let P : ℕ → Type 0 = λ count. HasDrives job count in
+    subst P (sym named) has

@@ -15,20 +15,21 @@ use Rattle.fg_outside.specs.declared.drive.Read.{Read}
 use Rattle.fg_outside.specs.Drives.{DriveRead, LogsGrew, LogsGrewBy, LogsGrewByFirst, NoneRose}
 use Rattle.fg_outside.proofs.DriveLemmas.{EachDrive-same, LogsGrew-more, LogsGrewBy-none, LogsGrewByFirst-before, LogsGrewByFirst-more}
 use Rattle.fg_report.specs.Refusals.{refusal_line}
-use Rattle.fg_top.specs.declared.jobs.Wish.{Wish}
-use Rattle.fg_top.specs.Ends.{Ends, EndsAlone, EndsLeaving, IsCause, IsWritten, output_between}
+use Rattle.fg_top.specs.declared.wish.Wish.{Wish}
+use Rattle.fg_top.specs.Calls.{Tallied, output_over}
+use Rattle.fg_top.specs.Ends.{Ends, EndsAlone, EndsLeaving, IsCause, IsWritten}
 use Rattle.fg_top.specs.Outcome.{Done, Outcome, WishComesTo, at_once, head_of, held_graph, opened_graph, outcome_of, rules_of, run_in, run_on, run_outcome, source_of}
 use Rattle.fg_top.specs.Reads.{IsAskedBy, RunReads, RunReadsAll, image_reads_of, ref_reads, sourced_reads}
 use Rattle.fg_top.specs.Running.{IsSourced, RunComesTo, behind_head}
-use Rattle.fg_top.specs.Tallies.{RoseByRun, RoseByWish, Tallied}
+use Rattle.fg_top.specs.Tallies.{RoseByRun, RoseByWish}
 use Rattle.fg_top.proofs.EndLemmas.{behind, ends_behind, ends_given_up, ends_in_memory, refused_status}
 use Rattle.fg_top.proofs.OutcomeLemmas.{comes_behind_head, comes_in_memory, le_fails, runs_so}
 
 -- the job ends where a refusal's line was written, or its put or the flush failed
 pub ends_refused : {D : Type 0} (faults : D → ℕ) (olds news : List D) (comes : Outcome → Type 0) (leaves : Option Refusal → List ℕ → Type 0) (refusal : Refusal)
     (f0 f1 : ℕ) (t0 t1 : Option (List ℕ)) (back : Bool) (status : ℕ) → IsCause faults olds news comes (Some refusal) (refusal_line refusal) →
-    leaves (Some refusal) (refusal_line refusal) → IsWritten (output_between f0 f1 t0 t1 back) (Some refusal) (refusal_line refusal) status →
-    EndsLeaving faults olds news comes leaves (output_between f0 f1 t0 t1 back) status
+    leaves (Some refusal) (refusal_line refusal) → IsWritten (output_over f0 f1 t0 t1 back) (Some refusal) (refusal_line refusal) status →
+    EndsLeaving faults olds news comes leaves (output_over f0 f1 t0 t1 back) status
 ends_refused faults olds news comes leaves refusal f0 f1 t0 t1 back status cause left written =
     record { end = Some refusal; text = refusal_line refusal; cause = cause; left = left; written = written }
 
@@ -48,7 +49,7 @@ pub ends_at_head : {D : Type 0} (faults : D → ℕ) (olds news : List D) (wish 
     (leaves : Option Refusal → Type 0) (f0 f1 : ℕ) (t0 t1 : Option (List ℕ)) (back : Bool) (status : ℕ) →
     IfSome told (λ helds. outcome_of wish helds ≡ run_outcome wish (head_of wish.pick header) (run_of helds)) → NoneRose faults olds news → leaves (Some Refusal.Memory) → Rose f0 f1 →
     GrewByFirst (head_of wish.pick header) t0 t1 → status ≡ 4 →
-    Ends faults olds news (WishComesTo wish told) leaves (output_between f0 f1 t0 t1 back) status
+    Ends faults olds news (WishComesTo wish told) leaves (output_over f0 f1 t0 t1 back) status
 ends_at_head faults olds news wish told header run_of leaves f0 f1 t0 t1 back status so kept left rose grew failed =
     let head = head_of wish.pick header in
     let run = some_run wish told (λ helds. behind_head (rules_of wish.pick) wish (run_of helds)) in
@@ -61,11 +62,11 @@ pub ends_after_head : {D : Type 0} (faults : D → ℕ) (olds betweens news : Li
     (run_of : List (List ℕ) → Run) (own leaves : Option Refusal → Type 0) (f0 f1 f2 : ℕ) (t0 t1 t2 : Option (List ℕ)) (back : Bool) (status : ℕ) →
     again ≡ told → IfSome told (λ helds. outcome_of wish helds ≡ run_outcome wish (head_of wish.pick header) (run_of helds)) → NoneRose faults olds betweens → ((end : Option Refusal) → leaves end) →
     f1 ≡ f0 → t1 ≡ grown t0 (head_of wish.pick header) →
-    Ends faults betweens news (RunComesTo (rules_of wish.pick) wish again run_of) own (output_between f1 f2 t1 t2 back) status →
-    Ends faults olds news (WishComesTo wish told) leaves (output_between f0 f2 t0 t2 back) status
+    Ends faults betweens news (RunComesTo (rules_of wish.pick) wish again run_of) own (output_over f1 f2 t1 t2 back) status →
+    Ends faults olds news (WishComesTo wish told) leaves (output_over f0 f2 t0 t2 back) status
 ends_after_head faults olds betweens news wish told again header run_of own leaves f0 f1 f2 t0 t1 t2 back status same so kept left stood grew ends =
     let head = head_of wish.pick header in
-    let Of : Option (List (List ℕ)) → Type 0 = λ told. Ends faults betweens news (RunComesTo (rules_of wish.pick) wish told run_of) own (output_between f1 f2 t1 t2 back) status in
+    let Of : Option (List (List ℕ)) → Type 0 = λ told. Ends faults betweens news (RunComesTo (rules_of wish.pick) wish told run_of) own (output_over f1 f2 t1 t2 back) status in
     ends_behind faults olds betweens news (RunComesTo (rules_of wish.pick) wish told run_of) (WishComesTo wish told) own leaves (head ∷ []) f0 f1 f2 t0 t1 t2 back status
     (comes_behind_head wish told header run_of so) kept left stood (grew ∙ ap (grown t0) (sym (append-nil head))) (subst Of same ends)
 
@@ -74,12 +75,12 @@ pub ends_in_memory_after_head : {D : Type 0} (faults : D → ℕ) (olds news : L
     (leaves : Option Refusal → Type 0) (f0 f1 f2 : ℕ) (t0 t1 t2 : Option (List ℕ)) (back : Bool) (status : ℕ) →
     IfSome told (λ helds. outcome_of wish helds ≡ run_outcome wish (head_of wish.pick header) (run_in wish graph)) → NoneRose faults olds news → ((end : Option Refusal) → leaves end) →
     f1 ≡ f0 → t1 ≡ grown t0 (head_of wish.pick header) →
-    EndsAlone (RunComesTo (rules_of wish.pick) wish (Some graph) (run_in wish)) (output_between f1 f2 t1 t2 back) status →
-    Ends faults olds news (WishComesTo wish told) leaves (output_between f0 f2 t0 t2 back) status
+    EndsAlone (RunComesTo (rules_of wish.pick) wish (Some graph) (run_in wish)) (output_over f1 f2 t1 t2 back) status →
+    Ends faults olds news (WishComesTo wish told) leaves (output_over f0 f2 t0 t2 back) status
 ends_in_memory_after_head faults olds news wish told header graph leaves f0 f1 f2 t0 t1 t2 back status so kept left stood grew ends =
     ends_after_head faults olds news news wish told told header (λ helds. run_in wish graph) leaves leaves f0 f1 f2 t0 t1 t2 back status refl so kept left stood grew
     (ends_in_memory faults news news (RunComesTo (rules_of wish.pick) wish (Some graph) (run_in wish)) (RunComesTo (rules_of wish.pick) wish told (λ helds. run_in wish graph))
-    leaves (output_between f1 f2 t1 t2 back) status (comes_in_memory wish told graph) (EachDrive-same (λ old new. faults new ≡ faults old) (λ drive. refl) news) left ends)
+    leaves (output_over f1 f2 t1 t2 back) status (comes_in_memory wish told graph) (EachDrive-same (λ old new. faults new ≡ faults old) (λ drive. refl) news) left ends)
 
 -- the outcome of a run over the graph that was read
 pub runs_loaded : (wish : Wish) (told again : Option (List (List ℕ))) (opened : Opened) (graph : Graph) → again ≡ told →
@@ -172,5 +173,5 @@ tally_of wish (Some helds) again opened tally same opening rose =
 
 -- where the status is 0 nothing was refused
 pub not_refused : (f0 f1 : ℕ) (t0 t1 : Option (List ℕ)) (back : Bool) (refusal : Refusal) (text : List ℕ) (status : ℕ) (P : Type 0) →
-    IsWritten (output_between f0 f1 t0 t1 back) (Some refusal) text status → status ≡ 0 → P
-not_refused f0 f1 t0 t1 back refusal text status P written zero = absurd (refused_status (output_between f0 f1 t0 t1 back) refusal text status written zero)
+    IsWritten (output_over f0 f1 t0 t1 back) (Some refusal) text status → status ≡ 0 → P
+not_refused f0 f1 t0 t1 back refusal text status P written zero = absurd (refused_status (output_over f0 f1 t0 t1 back) refusal text status written zero)

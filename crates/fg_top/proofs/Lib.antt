@@ -1,5 +1,6 @@
 mod BuildDrives
 mod BuildEnds
+mod CheckEnds
 mod EndLemmas
 mod FlashLemmas
 mod FlushLemmas
@@ -7,7 +8,6 @@ mod JobLemmas
 mod MadeEnds
 mod MadeLaws
 mod MeaningLemmas
-mod NumberLemmas
 mod OutcomeLemmas
 mod PagedLemmas
 mod PagesBegin
@@ -22,11 +22,4 @@ mod PagesTold
 mod PagesVertices
 mod RunEnds
 mod TallyLemmas
-mod WordInput
-mod WordJobs
-pub mod WordLaws
-mod WordLists
-pub mod WordNames
-mod WordReading
-mod WordRows
-mod WordSteps
+mod UnreadLemmas

@@ -10,6 +10,7 @@ use Rattle.fg_build.specs.Building.{HoldImage, RoomyKeptForImage}
 use Rattle.fg_build.specs.Layouts.{Plan, all_drive_bytes, drive_bytes}
 use Rattle.fg_build.specs.Opening.{graph_on}
 use Rattle.fg_image.specs.Made.{image_bytes}
+use Rattle.fg_image.proofs.MakingLaws.{made_image}
 use Rattle.fg_model.specs.declared.graph.Graph.{Graph}
 use Rattle.fg_model.specs.Edges.{AreEdges, EdgeList}
 use Rattle.fg_outside.specs.Drives.{EachDriveFrom, HasEach, HasEachFrom, NoneRose, RoomyKept, RoseFirst, all_told, told_before}
@@ -20,14 +21,15 @@ use Rattle.fg_stripe.specs.declared.layout.Layout.{Layout}
 use Rattle.fg_stripe.specs.Striping.{pages_on}
 use Rattle.fg_text.specs.Generator.{generated_text}
 use Rattle.fg_text.specs.Made.{MadeRefused}
-use Rattle.fg_top.specs.declared.jobs.Recipe.{Recipe}
-use Rattle.fg_top.specs.declared.jobs.Wish.{Wish}
-use Rattle.fg_top.specs.Ends.{Ends, EndsAlone, IsCause, IsCutShort, IsOutcome, Output}
-use Rattle.fg_top.specs.LargeOutcome.{LargeComesTo, edges_graph, generated_graph}
+use Rattle.fg_words.specs.declared.jobs.Recipe.{Recipe}
+use Rattle.fg_top.specs.declared.wish.Wish.{Wish}
+use Rattle.fg_top.specs.Calls.{Output, Tallied}
+use Rattle.fg_top.specs.Ends.{Ends, EndsAlone, IsCause, IsCutShort, IsOutcome}
+use Rattle.fg_top.specs.LargeJob.{HasMirror, LargeComesTo, MeansGenerated, edges_graph, generated_graph}
 use Rattle.fg_top.specs.Meaning.{MeansWish}
 use Rattle.fg_top.specs.MadeDrives.{AreEmptyFor, HoldEdges, HoldGenerated, IsEmptyFor, OpenToEdges}
 use Rattle.fg_top.specs.Outcome.{Close, Counted, Outcome, Refuses, WishComesTo, at_once, held_graph, opened_graph, outcome_of, outcome_on}
-use Rattle.fg_top.specs.Tallies.{RoseByWish, RoseWithin, Tallied, begins_of}
+use Rattle.fg_top.specs.Tallies.{RoseByWish, RoseWithin, begins_of}
 use Rattle.fg_top.proofs.MadeLaws.{drive_pages}
 
 -- one drive more
@@ -234,9 +236,12 @@ went_generated held faults plan recipe wish olds whole tally opens holds rose =
 -- what the values mean of a run on drives that hold the generated edges
 pub means_generated : {D : Type 0} (held : D → Option (List ℕ)) (faults : D → ℕ) (plan : Plan) (recipe : Recipe) (wish : Wish) (olds : List D) →
     ((edges : EdgeList) → AreEdges edges → OpenToEdges (all_drive_bytes plan edges) edges) → HoldGenerated held faults plan recipe olds →
-    IfSome (all_told held olds) (λ helds. MeansWish wish (held_graph helds)) → MeansWish wish (generated_graph recipe)
+    IfSome (all_told held olds) (λ helds. MeansWish wish (held_graph helds)) → MeansGenerated wish recipe
 means_generated held faults plan recipe wish olds opens holds means =
-    known_generated held recipe olds (MeansWish wish) (gives_generated held faults plan recipe olds opens holds) means
+    let Mirror : Result EdgeList Refusal → Type 0 = λ says. HasMirror (edges_graph says) in (
+      known_generated held recipe olds (MeansWish wish) (gives_generated held faults plan recipe olds opens holds) means,
+      subst Mirror (sym holds.made) (made_image holds.edges holds.hold.are_edges).1.mirror,
+    )
 
 -- why edges weren't generated
 pub cause_of_generating : (wish : Wish) (recipe : Recipe) (refusal : Refusal) → MadeRefused recipe.undirected (generated_text recipe.start recipe.nodes recipe.edges) refusal →

@@ -15,7 +15,7 @@ use Rattle.fg_model.specs.declared.graph.Graph.{Graph}
 use Rattle.fg_outside.specs.Drives.{NoneRose}
 use Rattle.fg_outside.proofs.DriveLemmas.{EachSame-more, RoseFirst-after}
 use Rattle.fg_report.specs.Refusals.{refusal_line}
-use Rattle.fg_top.specs.declared.jobs.Wish.{Wish}
+use Rattle.fg_top.specs.declared.wish.Wish.{Wish}
 use Rattle.fg_top.specs.Ends.{IsCause, IsCutShort, IsOutcome}
 use Rattle.fg_top.specs.Outcome.{Close, Done, IsOwnSource, MayComeTo, Outcome, Refuses, WishComesTo, at_once, head_of, held_graph, opened_graph, outcome_of, outcome_on, rules_of, run_close, run_in, run_on, run_outcome, source_of, where_vertex}
 use Rattle.fg_top.specs.Running.{IsSourced, MayClose, RunComesTo}

@@ -21,7 +21,8 @@ use Rattle.fg_build.specs.Asked.{IsAsked, HasAsked}
 use Rattle.fg_build.proofs.AskedLaws.{IsAsked-left}
 use Rattle.fg_build.specs.ToldImage.{graph_over, image_told, is_told}
 use Rattle.fg_build.specs.OnlyRead.{Telling}
-use Rattle.fg_top.specs.Tallies.{RoseByRun, RoseWithBegun, RoseWithin, tallied}
+use Rattle.fg_top.specs.Calls.{tallied}
+use Rattle.fg_top.specs.Tallies.{RoseByRun, RoseWithBegun, RoseWithin}
 
 pub if_any : {A : Type 0} (told : Option A) (P : A → Type 0) → ((x : A) → P x) → IfSome told P
 if_any None P p = tt

@@ -24,11 +24,12 @@ use Rattle.fg_model.specs.Watch.{Grew, ShownAll, ShownPart, ShownSome, told_of}
 use Rattle.fg_outside.specs.Drives.{NoneRose, RoseFirst}
 use Rattle.fg_report.specs.Refusals.{refusal_line}
 use Rattle.fg_report.specs.ReportWatch.{iteration_text}
-use Rattle.fg_top.specs.declared.jobs.Wish.{Wish}
-use Rattle.fg_top.specs.Ends.{Ends, output_between}
+use Rattle.fg_top.specs.declared.wish.Wish.{Wish}
+use Rattle.fg_top.specs.Calls.{output_over}
+use Rattle.fg_top.specs.Ends.{Ends}
 use Rattle.fg_top.specs.Outcome.{Close, Done, Outcome, Refuses, run_close, text_of}
 use Rattle.fg_top.specs.Running.{IsClosed, MayClose, RunComesTo, behind_head, last_text}
-use Rattle.fg_top.specs.Tallies.{CameToEnd}
+use Rattle.fg_top.specs.Statuses.{CameToEnd}
 use Rattle.fg_top.proofs.BuildDrives.{held_status}
 use Rattle.fg_top.proofs.EndLemmas.{ends_given_up, not_come, refused_status, written_behind}
 
@@ -169,8 +170,8 @@ pub ends_of_run : {D A : Type 0} (faults : D → ℕ) (olds news : List D) (rule
     IfSome told (λ one. TellsEnd answer (run_of one)) →
     TellsFaults answer (NoneRose faults olds news) (λ drive. RoseFirst faults drive olds news) f0 f1 →
     IfSome told (λ one. ShownAs answer (iteration_text wish.each rules.show) (run_of one).finished t0 t1) →
-    IsClosed wish.quiet rules.show (output_between f1 f2 t1 t2 back) answer status →
-    Ends faults olds news (RunComesTo rules wish told run_of) leaves (output_between f0 f2 t0 t2 back) status
+    IsClosed wish.quiet rules.show (output_over f1 f2 t1 t2 back) answer status →
+    Ends faults olds news (RunComesTo rules wish told run_of) leaves (output_over f0 f2 t0 t2 back) status
 ends_of_run faults olds news rules wish told run_of leaves (Ok end) f0 f1 f2 t0 t1 t2 back status left grew ends counts shown closed =
     let last = last_text wish.quiet rules.show end in
     let whole = whole_run rules wish told run_of (Done last) t0 t1 grew tt (IfSome_then told ends (λ one answer. done_of rules wish (run_of one) end answer)) shown in
@@ -222,14 +223,14 @@ ends_of_run faults olds news rules wish told run_of leaves (Err RunFault.Watch) 
 
 -- where the status is 0 the run has an end
 pub run_is_ok : (quiet : Bool) (show : VState → Value) (f1 f2 : ℕ) (t1 t2 : Option (List ℕ)) (back : Bool) (answer : Result End RunFault) (status : ℕ) (P : Type 0) →
-    IsClosed quiet show (output_between f1 f2 t1 t2 back) answer status → status ≡ 0 → OnOk answer P → P
+    IsClosed quiet show (output_over f1 f2 t1 t2 back) answer status → status ≡ 0 → OnOk answer P → P
 run_is_ok quiet show f1 f2 t1 t2 back (Ok end) status P closed zero known = known
 run_is_ok quiet show f1 f2 t1 t2 back (Err RunFault.Memory) status P closed zero known =
-    absurd (refused_status (output_between f1 f2 t1 t2 back) Refusal.Memory _ status closed zero)
+    absurd (refused_status (output_over f1 f2 t1 t2 back) Refusal.Memory _ status closed zero)
 run_is_ok quiet show f1 f2 t1 t2 back (Err (RunFault.Drive drive)) status P closed zero known =
-    absurd (refused_status (output_between f1 f2 t1 t2 back) (Refusal.DriveFault drive) _ status closed zero)
+    absurd (refused_status (output_over f1 f2 t1 t2 back) (Refusal.DriveFault drive) _ status closed zero)
 run_is_ok quiet show f1 f2 t1 t2 back (Err (RunFault.BadEdge bad)) status P closed zero known =
-    absurd (refused_status (output_between f1 f2 t1 t2 back) (Refusal.BadEdge bad) _ status closed zero)
+    absurd (refused_status (output_over f1 f2 t1 t2 back) (Refusal.BadEdge bad) _ status closed zero)
 run_is_ok quiet show f1 f2 t1 t2 back (Err RunFault.Watch) status P closed zero known =
     let four : ◌≡◌ {A = ℕ} 4 0 = sym closed.failed ∙ zero in cc
 
@@ -247,27 +248,27 @@ five_not_eight is = cc
 
 -- where the status is that of a work that came to its end, the run did
 pub closed_whole : (quiet : Bool) (show : VState → Value) (f1 f2 : ℕ) (t1 t2 : Option (List ℕ)) (back : Bool) (answer : Result End RunFault) (status : ℕ) →
-    IsClosed quiet show (output_between f1 f2 t1 t2 back) answer status → CameToEnd status → IsWhole answer
+    IsClosed quiet show (output_over f1 f2 t1 t2 back) answer status → CameToEnd status → IsWhole answer
 closed_whole quiet show f1 f2 t1 t2 back (Ok end) status closed came = tt
 closed_whole quiet show f1 f2 t1 t2 back (Err RunFault.Memory) status closed came =
-    absurd (not_come (output_between f1 f2 t1 t2 back) Refusal.Memory _ status (λ is. one_not_zero is) (λ is. one_not_eight is) closed came)
+    absurd (not_come (output_over f1 f2 t1 t2 back) Refusal.Memory _ status (λ is. one_not_zero is) (λ is. one_not_eight is) closed came)
 closed_whole quiet show f1 f2 t1 t2 back (Err (RunFault.Drive drive)) status closed came =
-    absurd (not_come (output_between f1 f2 t1 t2 back) (Refusal.DriveFault drive) _ status (λ is. five_not_zero is) (λ is. five_not_eight is) closed came)
+    absurd (not_come (output_over f1 f2 t1 t2 back) (Refusal.DriveFault drive) _ status (λ is. five_not_zero is) (λ is. five_not_eight is) closed came)
 closed_whole quiet show f1 f2 t1 t2 back (Err (RunFault.BadEdge bad)) status closed came = tt
 closed_whole quiet show f1 f2 t1 t2 back (Err RunFault.Watch) status closed came =
     ⊎_elim (λ zero. let four : ◌≡◌ {A = ℕ} 4 0 = sym closed.failed ∙ zero in cc) (λ eight. let four : ◌≡◌ {A = ℕ} 4 8 = sym closed.failed ∙ eight in cc) came
 
 -- no run behind its head closes with the status of what drives hold
 pub closed_not_held : (quiet : Bool) (show : VState → Value) (f1 f2 : ℕ) (t1 t2 : Option (List ℕ)) (back : Bool) (answer : Result End RunFault) (status : ℕ) →
-    IsClosed quiet show (output_between f1 f2 t1 t2 back) answer status → status ≢ 7
+    IsClosed quiet show (output_over f1 f2 t1 t2 back) answer status → status ≢ 7
 closed_not_held quiet show f1 f2 t1 t2 back (Ok end) status closed is =
     ⊎_elim (λ whole. let zero : ◌≡◌ {A = ℕ} 0 7 = sym whole.3 ∙ is in cc) (λ failed. let four : ◌≡◌ {A = ℕ} 4 7 = sym failed.2 ∙ is in cc) closed
 closed_not_held quiet show f1 f2 t1 t2 back (Err RunFault.Memory) status closed is =
-    let own : ◌≡◌ {A = ℕ} 1 7 = held_status (output_between f1 f2 t1 t2 back) Refusal.Memory _ status closed is in cc
+    let own : ◌≡◌ {A = ℕ} 1 7 = held_status (output_over f1 f2 t1 t2 back) Refusal.Memory _ status closed is in cc
 closed_not_held quiet show f1 f2 t1 t2 back (Err (RunFault.Drive drive)) status closed is =
-    let own : ◌≡◌ {A = ℕ} 5 7 = held_status (output_between f1 f2 t1 t2 back) (Refusal.DriveFault drive) _ status closed is in cc
+    let own : ◌≡◌ {A = ℕ} 5 7 = held_status (output_over f1 f2 t1 t2 back) (Refusal.DriveFault drive) _ status closed is in cc
 closed_not_held quiet show f1 f2 t1 t2 back (Err (RunFault.BadEdge bad)) status closed is =
-    let own : ◌≡◌ {A = ℕ} 8 7 = held_status (output_between f1 f2 t1 t2 back) (Refusal.BadEdge bad) _ status closed is in cc
+    let own : ◌≡◌ {A = ℕ} 8 7 = held_status (output_over f1 f2 t1 t2 back) (Refusal.BadEdge bad) _ status closed is in cc
 closed_not_held quiet show f1 f2 t1 t2 back (Err RunFault.Watch) status closed is =
     let four : ◌≡◌ {A = ℕ} 4 7 = sym closed.failed ∙ is in cc
 

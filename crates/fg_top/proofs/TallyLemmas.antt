@@ -1,21 +1,18 @@
 -- How a job raises its tally, by what its stages did.
-use Rattle.std.proofs.Common.{◌≡◌, ◌≢◌, ◌∙◌, ℕ, true, ⊎_elim, Option, None, Some, IfSome, Result, Ok, Err, List, [], refl, sym, subst, arith}
+use Rattle.std.proofs.Common.{◌≡◌, ◌∙◌, ℕ, ⊎_elim, Option, None, Some, IfSome, Ok, List, [], refl, sym, subst, arith}
 use Rattle.fg_base.specs.Refusal.{status_of}
 use Rattle.fg_base.specs.declared.refusal.Refusal.{Refusal}
-use Rattle.fg_base.specs.declared.refusal.WordFault.{WordFault}
 use Rattle.fg_build.specs.declared.opened.Opened.{Opened}
 use Rattle.fg_build.specs.Opening.{opening_of}
 use Rattle.fg_model.specs.Iteration.{Begun}
 use Rattle.fg_model.specs.Run.{begun_of}
-use Rattle.fg_top.specs.declared.jobs.Job.{Job}
-use Rattle.fg_top.specs.declared.jobs.JobFault.{JobFault}
-use Rattle.fg_top.specs.declared.jobs.Wish.{Wish}
-use Rattle.fg_top.specs.Ends.{IsWritten, Output}
-use Rattle.fg_top.specs.Jobs.{is_still}
+use Rattle.fg_top.specs.declared.wish.Wish.{Wish}
+use Rattle.fg_top.specs.Calls.{Output, Tallied, tallied}
+use Rattle.fg_top.specs.Ends.{IsWritten}
 use Rattle.fg_top.specs.Outcome.{held_graph, run_on}
 use Rattle.fg_top.specs.Running.{IsSourced}
-use Rattle.fg_top.specs.Tallies.{CameToEnd, RoseWithBegun, RoseWithin, StandsBy, Tallied, begins_by, begins_of, tallied}
-use Rattle.fg_top.specs.Words.{IsJobOf, job_of}
+use Rattle.fg_top.specs.Statuses.{CameToEnd}
+use Rattle.fg_top.specs.Tallies.{RoseWithBegun, RoseWithin, begins_of}
 use Rattle.fg_top.proofs.EndLemmas.{refused_status}
 use Rattle.fg_top.proofs.OutcomeLemmas.{begins_run}
 
@@ -66,31 +63,7 @@ went_of wish (Some helds) again opened whole tally same opening sourced rose =
     let All : List Begun → Type 0 = λ all. RoseWithin whole all tally in
     subst All (sym (begins_run wish opened helds opening sourced)) (subst Of same rose)
 
--- words that give no job begin nothing, since reading them takes no memory; nor does a job that never waits
-nothing : (told : Option (List (List ℕ))) (whole : Type 0) (runs entries : ℕ) → IfSome told (λ helds. RoseWithin whole [] (tallied runs runs entries entries))
-nothing None whole runs entries = tt
-nothing (Some helds) whole runs entries = none_began whole [] runs entries (λ is_whole. refl)
-
-pub went_unread : (words : List (List ℕ)) (fault : JobFault) (told : Option (List (List ℕ))) (whole : Type 0) (runs entries : ℕ) → IsJobOf words (Err fault) → fault ≢ JobFault.Memory →
-    IfSome told (λ helds. RoseWithin whole (begins_by (job_of words) helds) (tallied runs runs entries entries))
-went_unread words JobFault.Memory told whole runs entries is no_memory = absurd (no_memory refl)
-went_unread words (JobFault.Words fault) told whole runs entries is no_memory =
-    let P : Result Job WordFault → Type 0 = λ given. IfSome told (λ helds. RoseWithin whole (begins_by given helds) (tallied runs runs entries entries)) in
-    subst P (sym is) (nothing told whole runs entries)
-
-pub went_still : (job : Job) (told : Option (List (List ℕ))) (whole : Type 0) (runs entries : ℕ) → is_still job ≡ true →
-    IfSome told (λ helds. RoseWithin whole (begins_by (Ok job) helds) (tallied runs runs entries entries))
-went_still (Job.Build unit number undirected) told whole runs entries still = nothing told whole runs entries
-went_still (Job.Run pick max each quiet) told whole runs entries still = cc
-went_still (Job.Ref pick max each quiet) told whole runs entries still = nothing told whole runs entries
-went_still (Job.Gen start nodes edges) told whole runs entries still = nothing told whole runs entries
-went_still (Job.Large pick max unit undirected start nodes edges drives) told whole runs entries still = cc
-
--- a tally that stands, stands by any job
-pub stands_still : (given : Result Job WordFault) (status runs entries : ℕ) → StandsBy given status (tallied runs runs entries entries)
-stands_still (Err fault) status runs entries = record { runs = refl; entries = refl }
-stands_still (Ok (Job.Build unit number undirected)) status runs entries = record { runs = refl; entries = refl }
-stands_still (Ok (Job.Run pick max each quiet)) status runs entries = λ seven. record { runs = refl; entries = refl }
-stands_still (Ok (Job.Ref pick max each quiet)) status runs entries = record { runs = refl; entries = refl }
-stands_still (Ok (Job.Gen start nodes edges)) status runs entries = record { runs = refl; entries = refl }
-stands_still (Ok (Job.Large pick max unit undirected start nodes edges drives)) status runs entries = λ seven. record { runs = refl; entries = refl }
+-- where nothing begins, a tally stands
+pub nothing_began : (told : Option (List (List ℕ))) (whole : Type 0) (runs entries : ℕ) → IfSome told (λ helds. RoseWithin whole [] (tallied runs runs entries entries))
+nothing_began None whole runs entries = tt
+nothing_began (Some helds) whole runs entries = none_began whole [] runs entries (λ is_whole. refl)

@@ -1,30 +1,23 @@
 -- What building an image from a text comes to where memory suffices and no drive and no output fails.
 use Rattle.std.specs.Prelude.{◌≡◌, ◌<◌, ℕ, ◌/◌, Bool, true, false, Option, None, Some, IfSome, Result, Ok, Err, List, [], ◌++◌, ◌⊎◌, codes, decimal, length}
 use Rattle.fg_base.specs.Faults.{Rose}
+use Rattle.fg_base.specs.declared.limits.TheConstants.{PAGE_BYTES}
 use Rattle.fg_base.specs.declared.refusal.Refusal.{Refusal}
 use Rattle.fg_build.specs.Building.{AreEmpty, IsFirstFull}
 use Rattle.fg_image.specs.Made.{image_bytes}
 use Rattle.fg_model.specs.Edges.{AreEdges, EdgeList}
 use Rattle.fg_text.specs.Text.{read_text}
+use Rattle.fg_top.specs.Calls.{Input}
 use Rattle.fg_top.specs.Outcome.{Close, Done, Outcome, Refuses}
-
--- the source of a text: what is left in it before a job, and its counts of faults before and after
-pub record Input : Type 0 where
-  pub left : Option (List ℕ)
-  pub old_faults : ℕ
-  pub new_faults : ℕ
-
-abbrev pub input_over : Option (List ℕ) → ℕ → ℕ → Input
-input_over left old_faults new_faults = record { left = left; old_faults = old_faults; new_faults = new_faults }
 
 -- whether edges have weights, as it is written
 abbrev pub kind_text : Bool → List ℕ
 kind_text true = codes "weighted"
 kind_text false = codes "plain"
 
--- the vertices, and the pairs, which are the entries of either direction
-abbrev pub counts_text : ℕ → ℕ → List ℕ
-counts_text vertices pairs = codes "vertices " ++ decimal vertices ++ codes " out " ++ decimal pairs ++ codes " in " ++ decimal pairs
+-- the vertices, and the entries of either direction
+abbrev pub counts_text : ℕ → ℕ → ℕ → List ℕ
+counts_text vertices outs ins = codes "vertices " ++ decimal vertices ++ codes " out " ++ decimal outs ++ codes " in " ++ decimal ins
 
 -- whether edges have weights, and the pages of their image over so many drives
 abbrev pub image_text : Bool → ℕ → ℕ → List ℕ
@@ -33,7 +26,7 @@ image_text weighted pages drives = codes " " ++ kind_text weighted ++ codes " pa
 -- the line of edges that were built over so many drives, with its end
 abbrev pub built_line : ℕ → EdgeList → List ℕ
 built_line drives edges =
-    codes "built " ++ counts_text edges.n (length edges.pairs) ++ image_text edges.weighted (length (image_bytes edges) / 4096) drives ++ codes "\n"
+    codes "built " ++ counts_text edges.n (length edges.pairs) (length edges.pairs) ++ image_text edges.weighted (length (image_bytes edges) / PAGE_BYTES) drives ++ codes "\n"
 
 -- how a build over so many drives closes, by what its text says
 abbrev pub close_of_text : ℕ → Result EdgeList Refusal → Close
@@ -65,7 +58,7 @@ ClosesByText drives undirected (Some bytes) close = close ≡ close_of_text driv
 abbrev pub ClosesByInput : ℕ → Bool → Input → Close → Type 0
 ClosesByInput drives undirected input close =
     (Rose input.old_faults input.new_faults × (close ≡ Refuses Refusal.InputFault))
-    ⊎ ((input.new_faults ≡ input.old_faults) × ClosesByText drives undirected input.left close)
+    ⊎ ((input.new_faults ≡ input.old_faults) × ClosesByText drives undirected input.old_left close)
 
 -- by its drives, as far as they tell what they hold: refused for the first that holds a whole page, in any case for one of them;
 -- where none does, the input decides

@@ -7,7 +7,8 @@ use Rattle.fg_build.specs.Layouts.{Plan}
 use Rattle.fg_model.specs.Edges.{AreEdges, EdgeList}
 use Rattle.fg_outside.specs.Drives.{EachSame, NoneRose, RoomyKept, RoseFirst, all_told}
 use Rattle.fg_text.specs.Text.{read_text}
-use Rattle.fg_top.specs.BuildOutcome.{Input, built_line}
+use Rattle.fg_top.specs.BuildOutcome.{built_line}
+use Rattle.fg_top.specs.Calls.{Input}
 
 -- these are the edges of the text that was left in the source, where it tells that
 pub record AreOfText (undirected : Bool) (left : Option (List ℕ)) (edges : EdgeList) : Type 0 where
@@ -19,7 +20,7 @@ pub record AreOfText (undirected : Bool) (left : Option (List ℕ)) (edges : Edg
 pub record MayBuild {D : Type 0} (held : D → Option (List ℕ)) (undirected : Bool) (input : Input) (olds : List D) (edges : EdgeList) : Type 0 where
   pub empty : IfSome (all_told held olds) AreEmpty
   pub stood : input.new_faults ≡ input.old_faults
-  pub of_text : AreOfText undirected input.left edges
+  pub of_text : AreOfText undirected input.old_left edges
 
 -- no drive failed, and each holds its part of the image of the text's edges behind what it held
 pub record AreBuilt {D : Type 0} (held : D → Option (List ℕ)) (faults : D → ℕ) (plan : Plan) (undirected : Bool) (input : Input) (olds news : List D) : Type 0 where

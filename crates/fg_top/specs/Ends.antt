@@ -1,6 +1,6 @@
 -- How a job ends: its status, what was written, whose count of faults rose, and what it leaves. This is the form in which
 -- every job's end is stated.
-use Rattle.std.specs.Prelude.{◌≡◌, ℕ, Bool, false, Option, None, Some, List, [], ◌++◌, ◌⊎◌, take}
+use Rattle.std.specs.Prelude.{◌≡◌, ℕ, false, Option, None, Some, List, [], ◌++◌, ◌⊎◌, take}
 use Rattle.std.specs.List.{concat}
 use Rattle.fg_base.specs.Faults.{Rose}
 use Rattle.fg_base.specs.Refusal.{status_of}
@@ -9,6 +9,7 @@ use Rattle.fg_base.specs.declared.refusal.Refusal.{Refusal}
 use Rattle.fg_base.specs.declared.refusal.Refusal.TheVariants.{Memory, OutputFault, DriveFault}
 use Rattle.fg_report.specs.Refusals.{refusal_line}
 use Rattle.fg_outside.specs.Drives.{EachSame, NoneRose, RoseFirst}
+use Rattle.fg_top.specs.Calls.{Output}
 use Rattle.fg_top.specs.Outcome.{Close, Outcome, Done, Refuses}
 
 -- the status where nothing or this refusal ended the work and its text was written
@@ -47,18 +48,6 @@ IsCause faults olds news comes (Some (DriveFault drive)) text =
     RoseFirst faults drive olds news × IsCutShort comes (refusal_line (DriveFault drive)) text
 IsCause faults olds news comes (Some refusal) text =
     NoneRose faults olds news × IsOutcome comes (Refuses refusal) (refusal_line refusal) text
-
--- the sink's counts and its texts, before and after a job, and whether it keeps bytes back afterwards
-pub record Output : Type 0 where
-  pub old_faults : ℕ
-  pub new_faults : ℕ
-  pub old_text : Option (List ℕ)
-  pub new_text : Option (List ℕ)
-  pub keeps_back : Bool
-
-abbrev pub output_between : ℕ → ℕ → Option (List ℕ) → Option (List ℕ) → Bool → Output
-output_between old_faults new_faults old_text new_text keeps_back =
-    record { old_faults = old_faults; new_faults = new_faults; old_text = old_text; new_text = new_text; keeps_back = keeps_back }
 
 -- the text was written whole, nothing of it is kept back, and the status is that of the end; or a put or the flush
 -- failed, a first part of the text was written, and the status is 4

@@ -8,8 +8,8 @@ use Rattle.fg_model.specs.Edges.{AreEdges, EdgeList}
 use Rattle.fg_outside.specs.Drives.{HasEach, all_told}
 use Rattle.fg_stripe.specs.declared.layout.Layout.{Layout}
 use Rattle.fg_stripe.specs.Striping.{pages_on}
-use Rattle.fg_top.specs.declared.jobs.Recipe.{Recipe}
-use Rattle.fg_top.specs.LargeOutcome.{generated}
+use Rattle.fg_words.specs.declared.jobs.Recipe.{Recipe}
+use Rattle.fg_top.specs.LargeJob.{generated}
 
 -- an empty drive that never failed, with just the room that the drive of its number needs for its part of an image that is
 -- laid out so: its label, and its pages

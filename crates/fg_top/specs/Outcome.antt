@@ -6,6 +6,8 @@ use Rattle.fg_base.specs.declared.refusal.Refusal.{Refusal}
 use Rattle.fg_build.specs.declared.opened.Opened.{Opened}
 use Rattle.fg_build.specs.Answers.{MatchOpening}
 use Rattle.fg_build.specs.Opening.{graph_on, opening_of}
+use Rattle.fg_comps.specs.Core.{core}
+use Rattle.fg_comps.specs.Wcc.{wcc}
 use Rattle.fg_image.specs.declared.header.Header.{Header}
 use Rattle.fg_model.specs.declared.graph.Graph.{Graph}
 use Rattle.fg_model.specs.Program.{Rules}
@@ -16,8 +18,8 @@ use Rattle.fg_report.specs.Lines.{end_line, head_line}
 use Rattle.fg_report.specs.ReportWatch.{iteration_text}
 use Rattle.fg_report.specs.Sum.{sum_line}
 use Rattle.fg_report.specs.Values.{value_lines}
-use Rattle.fg_top.specs.declared.jobs.Pick.{Pick}
-use Rattle.fg_top.specs.declared.jobs.Wish.{Wish}
+use Rattle.fg_words.specs.declared.jobs.Pick.{Pick}
+use Rattle.fg_top.specs.declared.wish.Wish.{Wish}
 use Rattle.fg_walks.specs.Bfs.{bfs}
 use Rattle.fg_walks.specs.Sssp.{sssp}
 
@@ -25,16 +27,22 @@ use Rattle.fg_walks.specs.Sssp.{sssp}
 abbrev pub rules_of : Pick → Rules
 rules_of (Pick.Bfs source) = bfs source
 rules_of (Pick.Sssp source) = sssp source
+rules_of Pick.Wcc = wcc
+rules_of Pick.Core = core
 rules_of (Pick.Rank cut) = rank cut
 
 abbrev pub name_of : Pick → List ℕ
 name_of (Pick.Bfs source) = codes "bfs"
 name_of (Pick.Sssp source) = codes "sssp"
+name_of Pick.Wcc = codes "wcc"
+name_of Pick.Core = codes "core"
 name_of (Pick.Rank cut) = codes "rank"
 
 abbrev pub source_of : Pick → Option ℕ
 source_of (Pick.Bfs source) = Some source
 source_of (Pick.Sssp source) = Some source
+source_of Pick.Wcc = None
+source_of Pick.Core = None
 source_of (Pick.Rank cut) = None
 
 -- what a job asks of a run

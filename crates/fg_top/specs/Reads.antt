@@ -1,18 +1,15 @@
--- What a job reads of its drives.
+-- What a run reads of its drives.
 use Rattle.std.specs.Prelude.{ℕ, Option, None, Some, Result, Ok, Err, List, [], ◌++◌, ◌⊎◌, All, nat_le, if◌then◌else◌}
 use Rattle.fg_base.specs.declared.refusal.Refusal.{Refusal}
-use Rattle.fg_base.specs.declared.refusal.WordFault.{WordFault}
 use Rattle.fg_build.specs.declared.opened.Opened.{Opened}
 use Rattle.fg_build.specs.Opening.{opening_of}
 use Rattle.fg_build.specs.OpeningReads.{opening_reads, whole_reads}
 use Rattle.fg_model.specs.Run.{begun_of}
 use Rattle.fg_outside.specs.declared.drive.Read.{Read}
-use Rattle.fg_outside.specs.Drives.{DriveRead, EachSame, LogsGrew, LogsGrewByFirst}
-use Rattle.fg_top.specs.declared.jobs.Job.{Job}
+use Rattle.fg_outside.specs.Drives.{DriveRead, LogsGrew, LogsGrewByFirst}
 use Rattle.fg_build.specs.Asked.{IsAsked}
-use Rattle.fg_top.specs.declared.jobs.Wish.{Wish}
-use Rattle.fg_top.specs.Outcome.{rules_of, run_on, source_of, wish_for}
-use Rattle.fg_top.specs.Words.{job_of}
+use Rattle.fg_top.specs.declared.wish.Wish.{Wish}
+use Rattle.fg_top.specs.Outcome.{rules_of, run_on, source_of}
 
 -- the read is of a page that the wished run asks for, on drives that hold these bytes and open so
 abbrev pub IsAskedBy : Wish → List (List ℕ) → Result Opened Refusal → DriveRead → Type 0
@@ -42,36 +39,3 @@ image_reads_of wish (Ok opened) = sourced_reads opened (source_of wish.pick)
 -- the reads of a run in memory: those of opening, and then, where its source is a vertex, each page of the image, ascending
 abbrev pub ref_reads : Wish → List (List ℕ) → List DriveRead
 ref_reads wish helds = opening_reads helds ++ image_reads_of wish (opening_of helds)
-
--- what the job of these words reads of drives that hold these bytes; nothing where the words are refused, and where the job runs on no drives
-abbrev pub ReadsBy : {D : Type 0} → (D → Option (List Read)) → Result Job WordFault → List (List ℕ) → List D → List D → Type 0
-ReadsBy log (Err fault) helds olds news = LogsGrew log [] olds news
-ReadsBy log (Ok (Job.Build unit number undirected)) helds olds news = LogsGrew log [] olds news
-ReadsBy log (Ok (Job.Run pick max each quiet)) helds olds news = RunReads log (wish_for pick max each quiet) helds olds news
-ReadsBy log (Ok (Job.Ref pick max each quiet)) helds olds news = LogsGrewByFirst log (ref_reads (wish_for pick max each quiet) helds) olds news
-ReadsBy log (Ok (Job.Gen start nodes edges)) helds olds news = LogsGrew log [] olds news
-ReadsBy log (Ok (Job.Large pick max unit undirected start nodes edges drives)) helds olds news = LogsGrew log [] olds news
-
-abbrev pub Reads : {D : Type 0} → (D → Option (List Read)) → List (List ℕ) → List (List ℕ) → List D → List D → Type 0
-Reads log words helds olds news = ReadsBy log (job_of words) helds olds news
-
--- a job that reads nothing leaves the logs, whatever the drives tell
-abbrev pub KeepsLogsBy : {D : Type 0} → (D → Option (List Read)) → Result Job WordFault → List D → List D → Type 0
-KeepsLogsBy log (Err fault) olds news = EachSame log olds news
-KeepsLogsBy log (Ok (Job.Build unit number undirected)) olds news = EachSame log olds news
-KeepsLogsBy log (Ok (Job.Run pick max each quiet)) olds news = Unit {0}
-KeepsLogsBy log (Ok (Job.Ref pick max each quiet)) olds news = Unit {0}
-KeepsLogsBy log (Ok (Job.Gen start nodes edges)) olds news = EachSame log olds news
-KeepsLogsBy log (Ok (Job.Large pick max unit undirected start nodes edges drives)) olds news = EachSame log olds news
-
--- what a job that is done has read: the whole opening first, and of a run in memory the whole image
-abbrev pub ReadsAllBy : {D : Type 0} → (D → Option (List Read)) → Result Job WordFault → List (List ℕ) → List D → List D → Type 0
-ReadsAllBy log (Err fault) helds olds news = ⊥
-ReadsAllBy log (Ok (Job.Build unit number undirected)) helds olds news = LogsGrew log [] olds news
-ReadsAllBy log (Ok (Job.Run pick max each quiet)) helds olds news = RunReadsAll log (wish_for pick max each quiet) helds olds news
-ReadsAllBy log (Ok (Job.Ref pick max each quiet)) helds olds news = LogsGrew log (ref_reads (wish_for pick max each quiet) helds) olds news
-ReadsAllBy log (Ok (Job.Gen start nodes edges)) helds olds news = LogsGrew log [] olds news
-ReadsAllBy log (Ok (Job.Large pick max unit undirected start nodes edges drives)) helds olds news = LogsGrew log [] olds news
-
-abbrev pub ReadsAll : {D : Type 0} → (D → Option (List Read)) → List (List ℕ) → List (List ℕ) → List D → List D → Type 0
-ReadsAll log words helds olds news = ReadsAllBy log (job_of words) helds olds news

@@ -9,10 +9,11 @@ use Rattle.fg_model.specs.Program.{Rules}
 use Rattle.fg_model.specs.Run.{Run}
 use Rattle.fg_report.specs.Lines.{end_line}
 use Rattle.fg_report.specs.Refusals.{refusal_line}
-use Rattle.fg_top.specs.declared.jobs.JobFault.{JobFault}
-use Rattle.fg_top.specs.declared.jobs.Pick.{Pick}
-use Rattle.fg_top.specs.declared.jobs.Wish.{Wish}
-use Rattle.fg_top.specs.Ends.{IsWritten, Output}
+use Rattle.fg_words.specs.declared.jobs.JobFault.{JobFault}
+use Rattle.fg_words.specs.declared.jobs.Pick.{Pick}
+use Rattle.fg_top.specs.declared.wish.Wish.{Wish}
+use Rattle.fg_top.specs.Calls.{Output}
+use Rattle.fg_top.specs.Ends.{IsWritten}
 use Rattle.fg_top.specs.Outcome.{Close, Done, Outcome, Refuses, run_close, source_of, text_of, values_or_sum}
 
 -- the refusal of words that give no job

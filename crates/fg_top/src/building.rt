@@ -12,10 +12,11 @@ ghost use Rattle.fg_outside.specs.Drives.{EachSame, NoneRose, RoomyKept, all_tol
 ghost use Rattle.fg_report.specs.Refusals.{refusal_line};
 ghost use Rattle.fg_text.specs.Pieces.{IsAtEnd, TookFront};
 ghost use Rattle.fg_text.specs.Read.{ReadRefused};
-ghost use Rattle.fg_top.specs.BuildOutcome.{BuildComesTo, input_over};
+ghost use Rattle.fg_top.specs.BuildJob.{BuildingRefused, StoppedReading};
+ghost use Rattle.fg_top.specs.BuildOutcome.{BuildComesTo};
 ghost use Rattle.fg_top.specs.Built.{AreBuilt, AreLeft, AreOfText, BuildLeaves, IsKeptByBuild};
-ghost use Rattle.fg_top.specs.Ends.{EndsLeaving, IsCause, output_between};
-ghost use Rattle.fg_top.specs.JobLeaves.{BuildingRefused, StoppedReading};
+ghost use Rattle.fg_top.specs.Calls.{input_between, output_between};
+ghost use Rattle.fg_top.specs.Ends.{EndsLeaving, IsCause};
 
 use crate::built_line::write_built;
 use crate::report::refuse;
@@ -39,7 +40,7 @@ fn gather<S: Source, D: Drive>(
     ensures kept { OnOk result (NoneRose D.faults drives.old.items drives.new.items) }
     ensures cause { IfErr result (λ refusal. IsCause D.faults drives.old.items drives.new.items
         (BuildComesTo (length drives.old.items) undirected (all_told D.held drives.old.items)
-        (input_over (S.left input.old) (S.faults input.old) (S.faults input.new)))
+        (input_between S.Source input.old input.new))
         (Some refusal) (refusal_line refusal)) }
     ensures not_output { IfErr result (λ refusal. refusal ≢ output_fault) }
     ensures told_err { IfErr result (λ refusal. status_of refusal ≡ 7 → EmptyTold D.told drives.old.items drives.new.items (Err refusal)) }
@@ -81,15 +82,15 @@ pub fn build_job<S: Source, D: Drive, K: Sink>(
     requires small_unit { unit ≤ MAX_UNIT }
     ensures ends { EndsLeaving D.faults drives.old.items drives.new.items
         (BuildComesTo (length drives.old.items) undirected (all_told D.held drives.old.items)
-        (input_over (S.left input.old) (S.faults input.old) (S.faults input.new)))
+        (input_between S.Source input.old input.new))
         (BuildLeaves D.held D.faults (plan_of (length drives.old.items) unit number) undirected
-        (input_over (S.left input.old) (S.faults input.old) (S.faults input.new)) drives.old.items drives.new.items)
-        (output_between (K.faults out.old) (K.faults out.new) (K.written out.old) (K.written out.new) (K.keeps_back out.new)) result }
+        (input_between S.Source input.old input.new) drives.old.items drives.new.items)
+        (output_between K.Sink out.old out.new) result }
     // What the drives hold: whatever the status, where the job is done, and where it was refused before the first append.
     ensures drives { AreLeft D.held D.faults (plan_of (length drives.old.items) unit number) undirected
-        (input_over (S.left input.old) (S.faults input.old) (S.faults input.new)) drives.old.items drives.new.items }
+        (input_between S.Source input.old input.new) drives.old.items drives.new.items }
     ensures built { result ≡ 0 → AreBuilt D.held D.faults (plan_of (length drives.old.items) unit number) undirected
-        (input_over (S.left input.old) (S.faults input.old) (S.faults input.new)) drives.old.items drives.new.items }
+        (input_between S.Source input.old input.new) drives.old.items drives.new.items }
     ensures unbuilt { result ≢ 0 → result ≢ 4 → result ≢ 5 → EachSame D.held drives.old.items drives.new.items }
     ensures sure { IsKeptByBuild D.room D.faults (plan_of (length drives.old.items) unit number) undirected (S.left input.old) drives.old.items
         drives.new.items }

@@ -5,8 +5,9 @@ ghost use Rattle.fg_base.specs.Faults.{Counts};
 ghost use Rattle.fg_base.specs.Told.{grown, GrewByFirst};
 ghost use Rattle.fg_base.specs.declared.limits.TheConstants.{MAX_ENTRIES, MAX_VERTICES};
 ghost use Rattle.fg_text.specs.Generator.{generated_text};
-ghost use Rattle.fg_top.specs.Ends.{EndsAlone, IsWritten, output_between};
-ghost use Rattle.fg_top.specs.GenOutcome.{GenComesTo};
+ghost use Rattle.fg_top.specs.Calls.{output_between};
+ghost use Rattle.fg_top.specs.Ends.{EndsAlone, IsWritten};
+ghost use Rattle.fg_top.specs.GenJob.{GenComesTo};
 
 use fg_base::{Failed, Refusal};
 use fg_outside::Sink;
@@ -35,10 +36,10 @@ pub fn gen_job<K: Sink>(start: u64, nodes: u32, edges: u32, out: &mut K) -> u8
     requires some_nodes { 1 ≤ nodes }
     requires few_nodes { nodes ≤ MAX_VERTICES }
     requires few_edges { edges ≤ MAX_ENTRIES }
-    ensures written { IsWritten (output_between (K.faults out.old) (K.faults out.new) (K.written out.old) (K.written out.new) (K.keeps_back out.new))
+    ensures written { IsWritten (output_between K.Sink out.old out.new)
         None (generated_text start nodes edges) result }
     ensures ends { EndsAlone (GenComesTo start nodes edges)
-        (output_between (K.faults out.old) (K.faults out.new) (K.written out.old) (K.written out.new) (K.keeps_back out.new)) result }
+        (output_between K.Sink out.old out.new) result }
 {
     if let Err(_) = write_generated(start, nodes, edges, out) {
         return Refusal::OutputFault.status();

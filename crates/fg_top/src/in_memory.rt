@@ -11,24 +11,27 @@ ghost use Rattle.fg_build.specs.PagesTold.{RefusedTold};
 ghost use Rattle.fg_model.specs.Graph.{IsWithinLimits};
 ghost use Rattle.fg_outside.specs.Drives.{EachSame, LogsGrew, LogsGrewByFirst, NoneRose, RoomyKept, all_told};
 ghost use Rattle.fg_report.specs.Refusals.{refusal_line};
-ghost use Rattle.fg_top.specs.Ends.{Ends, EndsAlone, IsCause, LeavesHeld, output_between};
-ghost use Rattle.fg_top.specs.JobLeaves.{OpeningRefused};
+ghost use Rattle.fg_top.specs.Calls.{output_between};
+ghost use Rattle.fg_top.specs.Ends.{Ends, EndsAlone, IsCause, LeavesHeld};
 ghost use Rattle.fg_top.specs.Meaning.{MeansWish};
 ghost use Rattle.fg_top.specs.Outcome.{WishComesTo, head_of, held_graph, outcome_of, rules_of, run_in, run_outcome};
 ghost use Rattle.fg_top.specs.Reads.{ref_reads};
+ghost use Rattle.fg_top.specs.RunJob.{OpeningRefused};
 ghost use Rattle.fg_top.specs.Running.{RunComesTo};
 
-use crate::jobs::{Pick, Wish};
 use crate::opening::open_sourced;
 use crate::report::{close_run, refuse, write_head_of};
+use crate::wish::Wish;
 use fg_base::{Count, Refusal};
 use fg_build::{Opened, read_all};
+use fg_comps::{Core, Wcc};
 use fg_image::{Header, cut_graph};
 use fg_model::{Graph, Program, plain_run};
 use fg_outside::{Drive, Sink};
 use fg_rank::Rank;
 use fg_report::ReportWatch;
 use fg_walks::{Bfs, Sssp};
+use fg_words::Pick;
 use std::alloc::Global;
 
 /// The graph of the image that was opened on these drives. The image's bytes are gone when this returns.
@@ -70,7 +73,7 @@ fn report_run<P: Program, K: Sink>(
     ensures began { result ≢ 7 }
     ensures ends { EndsAlone
         (RunComesTo (rules_of wish.pick) wish (Some graph.now) (run_in wish))
-        (output_between (K.faults out.old) (K.faults out.new) (K.written out.old) (K.written out.new) (K.keeps_back out.new)) result }
+        (output_between K.Sink out.old out.new) result }
 {
     let mut watch = ReportWatch {
         program,
@@ -88,11 +91,13 @@ fn run_picked<K: Sink>(alloc: Global, wish: Wish, graph: &Graph, out: &mut K) ->
     ensures began { result ≢ 7 }
     ensures ends { EndsAlone
         (RunComesTo (rules_of wish.pick) wish (Some graph.now) (run_in wish))
-        (output_between (K.faults out.old) (K.faults out.new) (K.written out.old) (K.written out.new) (K.keeps_back out.new)) result }
+        (output_between K.Sink out.old out.new) result }
 {
     match wish.pick {
         Pick::Bfs(source) => report_run(alloc, &Bfs { source }, wish, graph, out),
         Pick::Sssp(source) => report_run(alloc, &Sssp { source }, wish, graph, out),
+        Pick::Wcc => report_run(alloc, &Wcc, wish, graph, out),
+        Pick::Core => report_run(alloc, &Core, wish, graph, out),
         Pick::Rank(cut) => report_run(alloc, &Rank { cut }, wish, graph, out),
     }
 }
@@ -143,7 +148,7 @@ pub fn ref_job<D: Drive, K: Sink>(alloc: Global, wish: Wish, drives: &mut Vec<D>
     ensures ends { Ends D.faults drives.old.items drives.new.items
         (WishComesTo wish (all_told D.held drives.old.items))
         (LeavesHeld D.held drives.old.items drives.new.items)
-        (output_between (K.faults out.old) (K.faults out.new) (K.written out.old) (K.written out.new) (K.keeps_back out.new)) result }
+        (output_between K.Sink out.old out.new) result }
     ensures drives { EachSame D.held drives.old.items drives.new.items }
     ensures sure { RoomyKept D.room D.faults drives.old.items drives.new.items }
     ensures reads { IfSome (all_told D.held drives.old.items) (λ helds. LogsGrewByFirst D.log (ref_reads wish helds) drives.old.items drives.new.items) }

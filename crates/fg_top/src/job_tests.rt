@@ -1,8 +1,7 @@
 //! `flash` building images from texts, generating edges, and running on generated edges: what is written, what the drives
 //! hold, each refusal of a text and of a drive, and each call of the outside failing in turn.
 
-use crate::flash;
-use crate::words::drive_names;
+use crate::{drive_names, flash};
 use fg_base::Count;
 use fg_base::limits::PAGE_BYTES;
 use fg_outside::{DriveOp, MemDrive, MemSink, MemSource};

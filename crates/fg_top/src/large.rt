@@ -5,15 +5,16 @@ ghost use Rattle.fg_base.specs.declared.limits.TheConstants.{MAX_DRIVES, MAX_ENT
 ghost use Rattle.fg_build.specs.Layouts.{plan_of};
 ghost use Rattle.fg_text.specs.Generator.{generated_text};
 ghost use Rattle.fg_text.specs.Made.{MadeRefused};
-ghost use Rattle.fg_top.specs.Ends.{EndsAlone, output_between};
-ghost use Rattle.fg_top.specs.LargeOutcome.{LargeComesTo, generated_graph};
+ghost use Rattle.fg_top.specs.Calls.{output_between, tally_between};
+ghost use Rattle.fg_top.specs.Ends.{EndsAlone};
+ghost use Rattle.fg_top.specs.LargeJob.{LargeComesTo, MeansGenerated, generated_graph};
 ghost use Rattle.fg_top.specs.MadeDrives.{AreEmptyFor, HoldGenerated};
-ghost use Rattle.fg_top.specs.Meaning.{MeansWish};
-ghost use Rattle.fg_top.specs.Tallies.{CameToEnd, RoseByWish, RoseWithin, Stood, begins_of, tallied};
+ghost use Rattle.fg_top.specs.Statuses.{CameToEnd};
+ghost use Rattle.fg_top.specs.Tallies.{RoseByWish, RoseWithin, Stood, begins_of};
 
-use crate::jobs::{Recipe, Wish};
 use crate::report::refuse;
 use crate::run::run_job;
+use crate::wish::Wish;
 use fg_base::{Memory, Refusal, Tally};
 use fg_build::build;
 use fg_image::image_pages;
@@ -21,6 +22,7 @@ use fg_outside::{Drive, RoomDrive, Sink};
 use fg_stripe::Layout;
 use fg_stripe::striping::need_on;
 use fg_text::generate_edges;
+use fg_words::Recipe;
 use std::alloc::Global;
 
 /// Empty drives, each with just the room that it needs for its part of an image that is laid out so.
@@ -108,14 +110,14 @@ pub fn large_job<K: Sink, T: Tally>(
     requires room_of_runs { T.runs tally.old ≤ 2 ^ 62 }
     requires room_of_entries { T.entries tally.old ≤ 2 ^ 62 }
     ensures ends { EndsAlone (LargeComesTo wish recipe)
-        (output_between (K.faults out.old) (K.faults out.new) (K.written out.old) (K.written out.new) (K.keeps_back out.new)) result }
-    ensures means { result ≡ 0 → MeansWish wish (generated_graph recipe) }
+        (output_between K.Sink out.old out.new) result }
+    ensures means { result ≡ 0 → MeansGenerated wish recipe }
     ensures tally { result ≡ 0 → RoseByWish wish (generated_graph recipe)
-        (tallied (T.runs tally.old) (T.runs tally.new) (T.entries tally.old) (T.entries tally.new)) }
+        (tally_between T.Tally tally.old tally.new) }
     ensures tally_went { RoseWithin (CameToEnd result) (begins_of wish (generated_graph recipe))
-        (tallied (T.runs tally.old) (T.runs tally.new) (T.entries tally.old) (T.entries tally.new)) }
+        (tally_between T.Tally tally.old tally.new) }
     ensures tally_stands { result ≡ 7 → Stood
-        (tallied (T.runs tally.old) (T.runs tally.new) (T.entries tally.old) (T.entries tally.new)) }
+        (tally_between T.Tally tally.old tally.new) }
 {
     let mut drives = match make_drives(alloc, recipe, unit, count) {
         Ok(drives) => drives,

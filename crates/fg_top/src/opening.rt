@@ -16,10 +16,11 @@ ghost use Rattle.fg_top.specs.Outcome.{WishComesTo, held_graph, source_of};
 ghost use Rattle.fg_top.specs.Running.{IsSourced};
 ghost use Rattle.fg_top.specs.Tallies.{begins_of};
 
-use crate::jobs::{Pick, Wish};
+use crate::wish::Wish;
 use fg_base::Refusal;
 use fg_build::{Opened, open};
 use fg_outside::Drive;
+use fg_words::Pick;
 use std::alloc::Global;
 
 /// The source of a program that has one.
@@ -29,7 +30,7 @@ fn source_of(pick: Pick) -> Option<u32>
     match pick {
         Pick::Bfs(source) => Some(source),
         Pick::Sssp(source) => Some(source),
-        Pick::Rank(_) => None,
+        Pick::Wcc | Pick::Core | Pick::Rank(_) => None,
     }
 }
 

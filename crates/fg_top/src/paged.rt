@@ -8,7 +8,8 @@ ghost use Rattle.fg_model.specs.Run.{begun_of, run};
 ghost use Rattle.fg_model.specs.Watch.{Grew};
 ghost use Rattle.fg_outside.specs.Drives.{EachSame, LogsGrewBy, NoneRose, RoomyKept, RoseFirst, all_told};
 ghost use Rattle.fg_build.specs.Asked.{IsAsked};
-ghost use Rattle.fg_top.specs.Tallies.{RoseByRun, RoseWithin, tallied};
+ghost use Rattle.fg_top.specs.Calls.{tallied};
+ghost use Rattle.fg_top.specs.Tallies.{RoseByRun, RoseWithin};
 
 use crate::pages::{Pages, opening_states};
 use fg_base::limits::PAGE_BYTES;

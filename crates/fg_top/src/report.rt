@@ -1,21 +1,22 @@
 //! What a job writes besides the lines of its iterations.
 
-ghost use Rattle.std.specs.Prelude.{◌≡◌, ◌≢◌, ◌≤◌, ◌^◌, ◌++◌, Contains, IfOk, OnErr, OnOk, Some, false, length};
+ghost use Rattle.std.specs.Prelude.{◌≡◌, ◌≢◌, ◌≤◌, ◌^◌, Contains, IfOk, OnErr, OnOk, Some, false, length};
 ghost use Rattle.fg_base.specs.Faults.{Counts};
 ghost use Rattle.fg_base.specs.Told.{grown, GrewByFirst};
 ghost use Rattle.fg_base.specs.declared.refusal.Refusal.TheVariants.{OutputFault as output_fault};
 ghost use Rattle.fg_report.specs.Lines.{program_names};
 ghost use Rattle.fg_report.specs.Refusals.{refusal_line};
-ghost use Rattle.fg_top.specs.Ends.{IsWritten, output_between};
+ghost use Rattle.fg_top.specs.Calls.{output_between};
+ghost use Rattle.fg_top.specs.Ends.{IsWritten};
 ghost use Rattle.fg_top.specs.Outcome.{head_of, name_of, values_or_sum};
 ghost use Rattle.fg_top.specs.Running.{IsClosed, IsRunRefused, last_text, words_refusal};
 
-use crate::jobs::{JobFault, Pick};
 use fg_base::{Failed, Refusal, VState};
 use fg_image::Header;
 use fg_model::{End, Program, RunFault};
 use fg_outside::Sink;
 use fg_report::{write_end, write_head, write_refusal, write_sum, write_values};
+use fg_words::{JobFault, Pick};
 
 /// The refusal of words that give no job.
 pub fn refusal_of_words(fault: JobFault) -> Refusal
@@ -46,7 +47,7 @@ fn write_refused<K: Sink>(out: &mut K, refusal: &Refusal) -> Result<(), Failed>
 /// Writes a refusal's line; the status is the refusal's, or the output's where a put or the flush fails.
 pub fn refuse<K: Sink>(out: &mut K, refusal: Refusal) -> u8
     requires { refusal ≢ output_fault }
-    ensures { IsWritten (output_between (K.faults out.old) (K.faults out.new) (K.written out.old) (K.written out.new) (K.keeps_back out.new))
+    ensures { IsWritten (output_between K.Sink out.old out.new)
         (Some refusal) (refusal_line refusal) result }
 {
     if let Err(_) = write_refused(out, &refusal) {
@@ -63,6 +64,8 @@ fn name_of(pick: Pick) -> &'static str
     match pick {
         Pick::Bfs(_) => "bfs",
         Pick::Sssp(_) => "sssp",
+        Pick::Wcc => "wcc",
+        Pick::Core => "core",
         Pick::Rank(_) => "rank",
     }
 }
@@ -143,7 +146,7 @@ fn write_last<P: Program, K: Sink>(
 
 /// Writes the line of what refused a run, and nothing where a put has failed already. The answer is the status.
 fn refuse_run<K: Sink>(out: &mut K, fault: RunFault) -> u8
-    ensures { IsRunRefused (output_between (K.faults out.old) (K.faults out.new) (K.written out.old) (K.written out.new) (K.keeps_back out.new)) fault result }
+    ensures { IsRunRefused (output_between K.Sink out.old out.new) fault result }
 {
     match fault {
         RunFault::Memory => refuse(out, Refusal::Memory),
@@ -162,8 +165,7 @@ pub fn close_run<P: Program, K: Sink>(
     answer: Result<End, RunFault>,
 ) -> u8
     requires { IfOk answer (λ end. length end.states ≤ 2 ^ 32) }
-    ensures { IsClosed quiet (P.rules program.now).show (output_between (K.faults out.old) (K.faults out.new) (K.written out.old) (K.written out.new)
-        (K.keeps_back out.new)) answer result }
+    ensures { IsClosed quiet (P.rules program.now).show (output_between K.Sink out.old out.new) answer result }
 {
     let end = match answer {
         Ok(end) => end,

@@ -1,29 +1,31 @@
 //! The work of a run over pages that are read from the drives.
 
-ghost use Rattle.std.specs.Prelude.{◌≡◌, ◌≢◌, ◌≤◌, ◌^◌, IfSome, Ok, length};
+ghost use Rattle.std.specs.Prelude.{◌≡◌, ◌≤◌, ◌^◌, IfSome, Ok, length};
 ghost use Rattle.fg_base.specs.declared.limits.TheConstants.{MAX_DRIVES};
 ghost use Rattle.fg_build.specs.Answers.{HoldWhole, OpenedFits};
-ghost use Rattle.fg_model.specs.Run.{begun_of};
-ghost use Rattle.fg_outside.specs.Drives.{EachSame, LogsGrewBy, RoomyKept, all_told};
-ghost use Rattle.fg_top.specs.Ends.{Ends, LeavesHeld, output_between};
-ghost use Rattle.fg_top.specs.JobLeaves.{OpeningRefused};
+ghost use Rattle.fg_outside.specs.Drives.{EachSame, RoomyKept, all_told};
+ghost use Rattle.fg_top.specs.Calls.{output_between, tally_between};
+ghost use Rattle.fg_top.specs.Ends.{Ends, LeavesHeld};
 ghost use Rattle.fg_top.specs.Meaning.{MeansWish};
-ghost use Rattle.fg_top.specs.Outcome.{WishComesTo, held_graph, rules_of, run_on};
-ghost use Rattle.fg_top.specs.Reads.{IsAskedBy, RunReads, RunReadsAll};
-ghost use Rattle.fg_top.specs.Running.{RunComesTo};
-ghost use Rattle.fg_top.specs.Tallies.{CameToEnd, RoseByRun, RoseByWish, RoseWithin, Stood, begins_of, tallied};
+ghost use Rattle.fg_top.specs.Outcome.{WishComesTo, held_graph, rules_of};
+ghost use Rattle.fg_top.specs.Reads.{RunReads, RunReadsAll};
+ghost use Rattle.fg_top.specs.RunJob.{OpeningRefused, RunsOpened};
+ghost use Rattle.fg_top.specs.Statuses.{CameToEnd};
+ghost use Rattle.fg_top.specs.Tallies.{RoseByWish, RoseWithin, Stood, begins_of};
 
-use crate::jobs::{Pick, Wish};
 use crate::opening::open_sourced;
 use crate::paged::{Paged, run_paged};
 use crate::report::{close_run, refuse, write_head_of};
+use crate::wish::Wish;
 use fg_base::{Refusal, Tally};
 use fg_build::Opened;
+use fg_comps::{Core, Wcc};
 use fg_model::Program;
 use fg_outside::{Drive, Sink};
 use fg_rank::Rank;
 use fg_report::ReportWatch;
 use fg_walks::{Bfs, Sssp};
+use fg_words::Pick;
 use std::alloc::Global;
 use std::mem;
 
@@ -48,19 +50,8 @@ fn report_run<P: Program, D: Drive, K: Sink, T: Tally>(
     requires told { HoldWhole D.told opened.layout drives.items }
     requires room_of_runs { T.runs tally.old ≤ 2 ^ 62 }
     requires room_of_entries { T.entries tally.old ≤ 2 ^ 62 }
-    ensures held { EachSame D.held drives.items result.drives.items }
-    ensures sure { RoomyKept D.room D.faults drives.items result.drives.items }
-    ensures reads { IfSome (all_told D.held drives.items) (λ helds. LogsGrewBy (IsAskedBy wish helds (Ok opened)) D.log drives.items result.drives.items) }
-    ensures ends { Ends D.faults drives.items result.drives.items
-        (RunComesTo (rules_of wish.pick) wish (all_told D.held drives.items) (run_on wish opened))
-        (LeavesHeld D.held drives.items result.drives.items)
-        (output_between (K.faults out.old) (K.faults out.new) (K.written out.old) (K.written out.new) (K.keeps_back out.new)) result.status }
-    ensures tally { result.status ≡ 0 → IfSome (all_told D.held drives.items)
-        (λ helds. RoseByRun (run_on wish opened helds) (tallied (T.runs tally.old) (T.runs tally.new) (T.entries tally.old) (T.entries tally.new))) }
-    ensures tally_went { IfSome (all_told D.held drives.items)
-        (λ helds. RoseWithin (CameToEnd result.status) (begun_of (run_on wish opened helds))
-        (tallied (T.runs tally.old) (T.runs tally.new) (T.entries tally.old) (T.entries tally.new))) }
-    ensures began { result.status ≢ 7 }
+    ensures { RunsOpened wish opened D.Drive drives.items result.drives.items (output_between K.Sink out.old out.new)
+        (tally_between T.Tally tally.old tally.new) result.status }
 {
     let mut watch = ReportWatch {
         program,
@@ -91,19 +82,8 @@ fn run_picked<D: Drive, K: Sink, T: Tally>(
     requires told { HoldWhole D.told opened.layout drives.items }
     requires room_of_runs { T.runs tally.old ≤ 2 ^ 62 }
     requires room_of_entries { T.entries tally.old ≤ 2 ^ 62 }
-    ensures held { EachSame D.held drives.items result.drives.items }
-    ensures sure { RoomyKept D.room D.faults drives.items result.drives.items }
-    ensures reads { IfSome (all_told D.held drives.items) (λ helds. LogsGrewBy (IsAskedBy wish helds (Ok opened)) D.log drives.items result.drives.items) }
-    ensures ends { Ends D.faults drives.items result.drives.items
-        (RunComesTo (rules_of wish.pick) wish (all_told D.held drives.items) (run_on wish opened))
-        (LeavesHeld D.held drives.items result.drives.items)
-        (output_between (K.faults out.old) (K.faults out.new) (K.written out.old) (K.written out.new) (K.keeps_back out.new)) result.status }
-    ensures tally { result.status ≡ 0 → IfSome (all_told D.held drives.items)
-        (λ helds. RoseByRun (run_on wish opened helds) (tallied (T.runs tally.old) (T.runs tally.new) (T.entries tally.old) (T.entries tally.new))) }
-    ensures tally_went { IfSome (all_told D.held drives.items)
-        (λ helds. RoseWithin (CameToEnd result.status) (begun_of (run_on wish opened helds))
-        (tallied (T.runs tally.old) (T.runs tally.new) (T.entries tally.old) (T.entries tally.new))) }
-    ensures began { result.status ≢ 7 }
+    ensures { RunsOpened wish opened D.Drive drives.items result.drives.items (output_between K.Sink out.old out.new)
+        (tally_between T.Tally tally.old tally.new) result.status }
 {
     match wish.pick {
         Pick::Bfs(source) => {
@@ -112,6 +92,8 @@ fn run_picked<D: Drive, K: Sink, T: Tally>(
         Pick::Sssp(source) => {
             report_run(alloc, &Sssp { source }, wish, opened, drives, out, tally)
         }
+        Pick::Wcc => report_run(alloc, &Wcc, wish, opened, drives, out, tally),
+        Pick::Core => report_run(alloc, &Core, wish, opened, drives, out, tally),
         Pick::Rank(cut) => report_run(alloc, &Rank { cut }, wish, opened, drives, out, tally),
     }
 }
@@ -131,20 +113,20 @@ pub fn run_job<D: Drive, K: Sink, T: Tally>(
     ensures ends { Ends D.faults drives.old.items drives.new.items
         (WishComesTo wish (all_told D.held drives.old.items))
         (LeavesHeld D.held drives.old.items drives.new.items)
-        (output_between (K.faults out.old) (K.faults out.new) (K.written out.old) (K.written out.new) (K.keeps_back out.new)) result }
+        (output_between K.Sink out.old out.new) result }
     ensures drives { EachSame D.held drives.old.items drives.new.items }
     ensures sure { RoomyKept D.room D.faults drives.old.items drives.new.items }
     ensures reads { IfSome (all_told D.held drives.old.items) (λ helds. RunReads D.log wish helds drives.old.items drives.new.items) }
     ensures means { result ≡ 0 → IfSome (all_told D.held drives.old.items) (λ helds. MeansWish wish (held_graph helds)) }
     ensures all_read { result ≡ 0 → IfSome (all_told D.held drives.old.items) (λ helds. RunReadsAll D.log wish helds drives.old.items drives.new.items) }
     ensures tally { result ≡ 0 → IfSome (all_told D.held drives.old.items)
-        (λ helds. RoseByWish wish (held_graph helds) (tallied (T.runs tally.old) (T.runs tally.new) (T.entries tally.old) (T.entries tally.new))) }
+        (λ helds. RoseByWish wish (held_graph helds) (tally_between T.Tally tally.old tally.new)) }
     ensures tally_went { IfSome (all_told D.held drives.old.items)
         (λ helds. RoseWithin (CameToEnd result) (begins_of wish (held_graph helds))
-        (tallied (T.runs tally.old) (T.runs tally.new) (T.entries tally.old) (T.entries tally.new))) }
+        (tally_between T.Tally tally.old tally.new)) }
     ensures told { result ≡ 7 → OpeningRefused D.told drives.old.items drives.new.items }
     ensures tally_stands { result ≡ 7 → Stood
-        (tallied (T.runs tally.old) (T.runs tally.new) (T.entries tally.old) (T.entries tally.new)) }
+        (tally_between T.Tally tally.old tally.new) }
 {
     let opened = match open_sourced(alloc, wish, drives) {
         Ok(opened) => opened,

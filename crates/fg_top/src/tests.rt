@@ -3,8 +3,7 @@
 
 ghost use Rattle.std.specs.Prelude.{◌≡◌, ◌≤◌, IfOk, vec_len};
 
-use crate::flash;
-use crate::words::drive_names;
+use crate::{drive_names, flash};
 use byteorder::{ByteOrder, LittleEndian};
 use fg_base::Count;
 use fg_base::limits::{MAX_DRIVES, PAGE_BYTES};
@@ -20,10 +19,11 @@ use std::thread::Threads;
 const PAGES: usize = 4;
 
 /// The numbers of 4 bytes of an image that aren't 0, each with its place.
-type Numbers = &'static [(usize, u32)];
+pub type Numbers = &'static [(usize, u32)];
 
 /// Five vertices with the out-lists 1 2, 3, 3 and 4, and the in-lists 0, 0, 1 2 and 3.
-const DIAMOND: Numbers = &[
+pub const DIAMOND: Numbers = &[
+    // `FGIM`, `AGE`, version 1, 5 vertices, 4 pages, 5 entries both ways in 20 bytes each, an index of 18 bytes
     (0, 0x4d49_4746),
     (4, 0x0045_4741),
     (8, 1),
@@ -45,7 +45,7 @@ const DIAMOND: Numbers = &[
     (8200, 1),
     (8204, 2),
     (8208, 3),
-    // the degrees 2, 1, 1, 1, 0 and 0, 1, 1, 2, 1
+    // the degrees 2, 1, 1, 1, 0 and 0, 1, 1, 2, 1, and no degree that stands apart
     (12_288, 0x0101_0102),
     (12_296, 0x0101_0000),
     (12_300, 0x0000_0102),
@@ -71,6 +71,32 @@ const PAIR: Numbers = &[
     // each degree is 1
     (12_288, 0x0000_0101),
     (12_292, 0x0101_0000),
+];
+
+/// Three vertices in a circle, the last of which leads to a fourth: the out-lists 1, 2 and 0 3, and the in-lists 2, 0, 1 and 2.
+const KITE: Numbers = &[
+    (0, 0x4d49_4746),
+    (4, 0x0045_4741),
+    (8, 1),
+    (16, 4),
+    (20, 4),
+    (24, 4),
+    (32, 4),
+    (40, 16),
+    (48, 16),
+    (56, 16),
+    (64, 1),
+    (68, 2),
+    (72, 3),
+    (4096, 1),
+    (4100, 2),
+    (4108, 3),
+    (8192, 2),
+    (8200, 1),
+    (8204, 2),
+    // the degrees 1, 1, 2, 0 and 1, 1, 1, 1
+    (12_288, 0x0002_0101),
+    (12_296, 0x0101_0101),
 ];
 
 /// What is done with the drives and the sink before the job.
@@ -220,6 +246,8 @@ const RUN: &[&str] = &["run", "--program", "bfs", "--source", "0", "D0"];
 
 const REF: &[&str] = &["ref", "--program", "bfs", "--source", "0", "D0"];
 
+const CHECK: &[&str] = &["check", "D0"];
+
 const HEAD: &str = "program bfs vertices 5 out 5 in 5\n";
 
 const FIRST: &str = "iteration 0 phase 0 active 1 messages 2\n";
@@ -262,6 +290,9 @@ fn prints_the_levels(rt: HostRuntime) -> Result<(), Fail> {
     assert_eq!(rt; still.status, 0);
     assert!(rt; is_text(still.text.written(), LINES));
     is_log(&rt, &still, &[&[0, 1, 4, 1, 2, 3, 4]]);
+    let checked = run(&rt, alloc, CHECK, SOUND)?;
+    assert_eq!(rt; checked.status, 0);
+    is_log(&rt, &checked, &[&[0, 1, 4, 1, 2, 3, 4]]);
     assert_eq!(rt; (still.tally.runs(), still.tally.entries()), (0, 0));
     Ok(())
 }
@@ -284,6 +315,35 @@ fn prints_the_levels_on_two_drives(rt: HostRuntime) -> Result<(), Fail> {
 
 /// The words, and the text of the job.
 const TEXTS: &[(&[&str], Numbers, &[&str])] = &[
+    (
+        &["run", "--program", "wcc", "D0"],
+        DIAMOND,
+        &[
+            "program wcc vertices 5 out 5 in 5\n",
+            "iteration 0 phase 0 active 5 messages 10\n",
+            "iteration 1 phase 0 active 4 messages 8\n",
+            "iteration 2 phase 0 active 2 messages 4\n",
+            "iteration 3 phase 0 active 1 messages 1\n",
+            "settled 4\n",
+            "0 0\n1 0\n2 0\n3 0\n4 0\n",
+        ],
+    ),
+    (
+        &["run", "--program", "core", "D0"],
+        KITE,
+        &[
+            "program core vertices 4 out 4 in 4\n",
+            "iteration 0 phase 1 active 1 messages 1\n",
+            "iteration 1 phase 2 active 3 messages 7\n",
+            "settled 2\n",
+            "0 2\n1 2\n2 2\n3 1\n",
+        ],
+    ),
+    (
+        CHECK,
+        KITE,
+        &["checked vertices 4 out 4 in 4 plain pages 4 drives 1\n"],
+    ),
     (
         &["run", "--program", "rank", "--max", "2", "D0"],
         PAIR,
@@ -407,6 +467,28 @@ const REFUSALS: &[(&[&str], (usize, u32), usize, u8, &[&str])] = &[
         8,
         &[HEAD, FIRST, "refused: vertex 2 out entry 0 target 5\n"],
     ),
+    (CHECK, (8, 3), PAGES, 7, &["refused: version 3 unknown\n"]),
+    (
+        CHECK,
+        (4108, 5),
+        PAGES,
+        8,
+        &["refused: vertex 2 out entry 0 target 5\n"],
+    ),
+    (
+        CHECK,
+        (8188, 0x0100_0000),
+        PAGES,
+        9,
+        &["refused: page 1 padding\n"],
+    ),
+    (
+        CHECK,
+        (4108, 4),
+        PAGES,
+        9,
+        &["refused: vertex 3 not mirrored\n"],
+    ),
 ];
 
 #[test]
@@ -455,6 +537,7 @@ fn each_call_of_the_drive_fails(rt: HostRuntime) -> Result<(), Fail> {
         (REF, 3, 0),
         (REF, 4, 0),
         (REF, 7, 0),
+        (CHECK, 7, 0),
     ];
     for (words, call, before) in rows {
         let left = run(

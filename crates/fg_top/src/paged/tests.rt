@@ -4,6 +4,7 @@
 ghost use Rattle.std.specs.Prelude.{◌≤◌};
 
 use super::{Paged, run_paged};
+use crate::tests::DIAMOND;
 use byteorder::{ByteOrder, LittleEndian};
 use fg_base::limits::{MAX_DRIVES, MAX_IMAGE_PAGES, PAGE_BYTES};
 use fg_base::{BadEdge, Count, Dir};
@@ -25,34 +26,7 @@ struct Form {
 /// Five vertices: the out-lists 1 2, 3, 3, 4 on page 1, the in-lists 0, 0, 1 2, 3 on page 2.
 const SMALL: Form = Form {
     pages: 4,
-    numbers: &[
-        // `FGIM`, `AGE`, version 1, 5 vertices, 4 pages, 5 entries both ways in 20 bytes each, an index of 18 bytes
-        (0, 0x4d49_4746),
-        (4, 0x0045_4741),
-        (8, 1),
-        (16, 5),
-        (20, 4),
-        (24, 5),
-        (32, 5),
-        (40, 20),
-        (48, 20),
-        (56, 18),
-        (64, 1),
-        (68, 2),
-        (72, 3),
-        (4096, 1),
-        (4100, 2),
-        (4104, 3),
-        (4108, 3),
-        (4112, 4),
-        (8200, 1),
-        (8204, 2),
-        (8208, 3),
-        // the degrees 2, 1, 1, 1, 0 and 0, 1, 1, 2, 1, and no degree that stands apart
-        (12_288, 0x0101_0102),
-        (12_296, 0x0101_0000),
-        (12_300, 0x0000_0102),
-    ],
+    numbers: DIAMOND,
 };
 
 /// Four vertices: 0 leads to 1 by weight 5 and to 2 by 1, 1 to 3 by 1, 2 to 1 by 2.

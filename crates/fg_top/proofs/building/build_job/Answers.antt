@@ -2,9 +2,10 @@ use Rattle.std.proofs.Common.{◌≡◌, ℕ, length, ap, arith, refl, rules, su
 use Rattle.fg_outside.specs.Drives.{all_told}
 use Rattle.fg_outside.proofs.DriveLemmas.{EachDrive-length, EachSame-more, all_told-length}
 use Rattle.fg_report.specs.Refusals.{refusal_line}
-use Rattle.fg_top.specs.BuildOutcome.{BuildComesTo, built_line, input_over}
+use Rattle.fg_top.specs.BuildOutcome.{BuildComesTo, built_line}
 use Rattle.fg_top.specs.Built.{BuildLeaves, MayBuild}
-use Rattle.fg_top.specs.Ends.{EndsLeaving, output_between}
+use Rattle.fg_top.specs.Calls.{input_between, output_between}
+use Rattle.fg_top.specs.Ends.{EndsLeaving}
 use Rattle.fg_top.specs.Outcome.{Outcome}
 use Rattle.fg_top.proofs.BuildDrives.{building_not_held, building_not_text, built_as_written, built_whole, cause_of_building, held_status, kept_built, kept_unbuilt, leaves_held, leaves_refused, left_by, over, text_status, unbuilt_refused}
 use Rattle.fg_top.proofs.BuildEnds.{comes_built}
@@ -16,7 +17,7 @@ pub returns-in-Err-clause-ends : goal.returns-in-Err-clause-ends
 returns-in-Err-clause-ends g c =
     let olds = c.args.drives.now.items in
     let news = c.gather.new.drives.items in
-    let input = input_over (g.S.Source.left c.args.input.now) (g.S.Source.faults c.args.input.now) (g.S.Source.faults c.gather.new.input) in
+    let input = input_between g.S.Source c.args.input.now c.gather.new.input in
     let plan = over c.args.unit c.args.number olds in
     ends_refused g.D.Drive.faults olds news (BuildComesTo (length olds) c.args.undirected (all_told g.D.Drive.held olds) input)
     (BuildLeaves g.D.Drive.held g.D.Drive.faults plan c.args.undirected input olds news) c.in-Err.refusal
@@ -32,7 +33,7 @@ returns-in-Err-clause-sure g c =
 
 pub returns-in-Err-clause-unread : goal.returns-in-Err-clause-unread
 returns-in-Err-clause-unread g c =
-    let output = output_between (g.K.Sink.faults c.args.out.now) (g.K.Sink.faults c.refuse.new.out) (g.K.Sink.written c.args.out.now) (g.K.Sink.written c.refuse.new.out) (g.K.Sink.keeps_back c.refuse.new.out) in
+    let output = output_between g.K.Sink c.args.out.now c.refuse.new.out in
     λ is. c.in-Err.ensures.unread (held_status output c.in-Err.refusal (refusal_line c.in-Err.refusal) c.refuse.result c.refuse.ensures is)
 
 pub build-requires-clause-some : goal.build-requires-clause-some
@@ -51,7 +52,7 @@ returns-in-Err-build-clause-ends g c =
     let between = c.gather.new.drives.items in
     let news = c.build.new.drives.items in
     let told = all_told g.D.Drive.held olds in
-    let input = input_over (g.S.Source.left c.args.input.now) (g.S.Source.faults c.args.input.now) (g.S.Source.faults c.gather.new.input) in
+    let input = input_between g.S.Source c.args.input.now c.gather.new.input in
     let refusal = c.in-Err-build.refusal in
     let may : MayBuild g.D.Drive.held c.args.undirected input olds c.in-Ok.edges =
     record { empty = c.in-Ok.ensures.empty; stood = c.in-Ok.ensures.input_kept; of_text = c.in-Ok.ensures.edges } in
@@ -68,7 +69,7 @@ pub returns-in-Err-build-clause-drives : goal.returns-in-Err-build-clause-drives
 returns-in-Err-build-clause-drives g c =
     let olds = c.args.drives.now.items in
     let news = c.build.new.drives.items in
-    let input = input_over (g.S.Source.left c.args.input.now) (g.S.Source.faults c.args.input.now) (g.S.Source.faults c.gather.new.input) in
+    let input = input_between g.S.Source c.args.input.now c.gather.new.input in
     let may : MayBuild g.D.Drive.held c.args.undirected input olds c.in-Ok.edges =
     record { empty = c.in-Ok.ensures.empty; stood = c.in-Ok.ensures.input_kept; of_text = c.in-Ok.ensures.edges } in
     left_by g.D.Drive.held g.D.Drive.faults (over c.args.unit c.args.number olds) c.args.undirected input olds news c.in-Err-build.refusal (refusal_line c.in-Err-build.refusal)
@@ -81,13 +82,13 @@ returns-in-Err-build-clause-unbuilt g c =
     λ not_zero not_four not_five.
     unbuilt_refused g.D.Drive.held g.D.Drive.faults (over c.args.unit c.args.number between) c.in-Ok.edges c.in-Err-build.refusal
     c.args.drives.now.items between c.build.new.drives.items
-    (output_between (g.K.Sink.faults c.args.out.now) (g.K.Sink.faults c.refuse-in-Err-build.new.out) (g.K.Sink.written c.args.out.now) (g.K.Sink.written c.refuse-in-Err-build.new.out) (g.K.Sink.keeps_back c.refuse-in-Err-build.new.out))
+    (output_between g.K.Sink c.args.out.now c.refuse-in-Err-build.new.out)
     (refusal_line c.in-Err-build.refusal) c.refuse-in-Err-build.result c.gather.ensures.held c.in-Err-build.ensures.holds
     c.refuse-in-Err-build.ensures not_four not_five
 
 pub returns-in-Err-build-clause-unread : goal.returns-in-Err-build-clause-unread
 returns-in-Err-build-clause-unread g c =
-    let output = output_between (g.K.Sink.faults c.args.out.now) (g.K.Sink.faults c.refuse-in-Err-build.new.out) (g.K.Sink.written c.args.out.now) (g.K.Sink.written c.refuse-in-Err-build.new.out) (g.K.Sink.keeps_back c.refuse-in-Err-build.new.out) in
+    let output = output_between g.K.Sink c.args.out.now c.refuse-in-Err-build.new.out in
     let refusal = c.in-Err-build.refusal in
     λ is. absurd (building_not_held g.D.Drive.faults c.gather.new.drives.items c.build.new.drives.items refusal c.in-Err-build.ensures.counts
     (held_status output refusal (refusal_line refusal) c.refuse-in-Err-build.result c.refuse-in-Err-build.ensures is))
@@ -105,10 +106,10 @@ pub returns-in-Err-write_built-clause-ends : goal.returns-in-Err-write_built-cla
 returns-in-Err-write_built-clause-ends g c =
     let olds = c.args.drives.now.items in
     let news = c.build.new.drives.items in
-    let input = input_over (g.S.Source.left c.args.input.now) (g.S.Source.faults c.args.input.now) (g.S.Source.faults c.gather.new.input) in
+    let input = input_between g.S.Source c.args.input.now c.gather.new.input in
     let comes : ℕ → Outcome → Type 0 = λ count. BuildComesTo count c.args.undirected (all_told g.D.Drive.held olds) input in
     let leaves = BuildLeaves g.D.Drive.held g.D.Drive.faults (over c.args.unit c.args.number olds) c.args.undirected input olds news in
-    let output = output_between (g.K.Sink.faults c.args.out.now) (g.K.Sink.faults c.write_built.new.out) (g.K.Sink.written c.args.out.now) (g.K.Sink.written c.write_built.new.out) (g.K.Sink.keeps_back c.write_built.new.out) in
+    let output = output_between g.K.Sink c.args.out.now c.write_built.new.out in
     let count = c.len-count.result in
     let counted : count ≡ length olds = search rules in
     let may : MayBuild g.D.Drive.held c.args.undirected input olds c.in-Ok.edges =
@@ -123,7 +124,7 @@ returns-in-Err-write_built-clause-ends g c =
 pub returns-in-Err-write_built-clause-drives : goal.returns-in-Err-write_built-clause-drives
 returns-in-Err-write_built-clause-drives g c =
     let olds = c.args.drives.now.items in
-    let input = input_over (g.S.Source.left c.args.input.now) (g.S.Source.faults c.args.input.now) (g.S.Source.faults c.gather.new.input) in
+    let input = input_between g.S.Source c.args.input.now c.gather.new.input in
     let may : MayBuild g.D.Drive.held c.args.undirected input olds c.in-Ok.edges =
     record { empty = c.in-Ok.ensures.empty; stood = c.in-Ok.ensures.input_kept; of_text = c.in-Ok.ensures.edges } in
     inr (inl (built_whole g.D.Drive.held g.D.Drive.faults c.args.unit c.args.number c.args.undirected input c.in-Ok.edges c.in-Ok-build.pages
@@ -142,10 +143,10 @@ pub returns-clause-ends : goal.returns-clause-ends
 returns-clause-ends g c =
     let olds = c.args.drives.now.items in
     let news = c.build.new.drives.items in
-    let input = input_over (g.S.Source.left c.args.input.now) (g.S.Source.faults c.args.input.now) (g.S.Source.faults c.gather.new.input) in
+    let input = input_between g.S.Source c.args.input.now c.gather.new.input in
     let comes : ℕ → Outcome → Type 0 = λ count. BuildComesTo count c.args.undirected (all_told g.D.Drive.held olds) input in
     let leaves = BuildLeaves g.D.Drive.held g.D.Drive.faults (over c.args.unit c.args.number olds) c.args.undirected input olds news in
-    let output = output_between (g.K.Sink.faults c.args.out.now) (g.K.Sink.faults c.write_built.new.out) (g.K.Sink.written c.args.out.now) (g.K.Sink.written c.write_built.new.out) (g.K.Sink.keeps_back c.write_built.new.out) in
+    let output = output_between g.K.Sink c.args.out.now c.write_built.new.out in
     let count = c.len-count.result in
     let counted : count ≡ length olds = search rules in
     let may : MayBuild g.D.Drive.held c.args.undirected input olds c.in-Ok.edges =
@@ -160,7 +161,7 @@ returns-clause-ends g c =
 pub returns-clause-drives : goal.returns-clause-drives
 returns-clause-drives g c =
     let olds = c.args.drives.now.items in
-    let input = input_over (g.S.Source.left c.args.input.now) (g.S.Source.faults c.args.input.now) (g.S.Source.faults c.gather.new.input) in
+    let input = input_between g.S.Source c.args.input.now c.gather.new.input in
     let may : MayBuild g.D.Drive.held c.args.undirected input olds c.in-Ok.edges =
     record { empty = c.in-Ok.ensures.empty; stood = c.in-Ok.ensures.input_kept; of_text = c.in-Ok.ensures.edges } in
     inr (inl (built_whole g.D.Drive.held g.D.Drive.faults c.args.unit c.args.number c.args.undirected input c.in-Ok.edges c.in-Ok-build.pages
@@ -169,7 +170,7 @@ returns-clause-drives g c =
 pub returns-clause-built : goal.returns-clause-built
 returns-clause-built g c =
     let olds = c.args.drives.now.items in
-    let input = input_over (g.S.Source.left c.args.input.now) (g.S.Source.faults c.args.input.now) (g.S.Source.faults c.gather.new.input) in
+    let input = input_between g.S.Source c.args.input.now c.gather.new.input in
     let may : MayBuild g.D.Drive.held c.args.undirected input olds c.in-Ok.edges =
     record { empty = c.in-Ok.ensures.empty; stood = c.in-Ok.ensures.input_kept; of_text = c.in-Ok.ensures.edges } in
     λ zero. built_whole g.D.Drive.held g.D.Drive.faults c.args.unit c.args.number c.args.undirected input c.in-Ok.edges c.in-Ok-build.pages
@@ -186,28 +187,28 @@ returns-clause-reads g c =
 
 pub returns-in-Err-clause-stops : goal.returns-in-Err-clause-stops
 returns-in-Err-clause-stops g c =
-    let output = output_between (g.K.Sink.faults c.args.out.now) (g.K.Sink.faults c.refuse.new.out) (g.K.Sink.written c.args.out.now) (g.K.Sink.written c.refuse.new.out) (g.K.Sink.keeps_back c.refuse.new.out) in
+    let output = output_between g.K.Sink c.args.out.now c.refuse.new.out in
     λ is.
     let of_text = text_status output c.in-Err.refusal (refusal_line c.in-Err.refusal) c.refuse.result c.refuse.ensures is in
     record { refusal = c.in-Err.refusal; of_text = of_text; stopped = c.in-Err.ensures.stops of_text }
 
 pub returns-in-Err-build-clause-stops : goal.returns-in-Err-build-clause-stops
 returns-in-Err-build-clause-stops g c =
-    let output = output_between (g.K.Sink.faults c.args.out.now) (g.K.Sink.faults c.refuse-in-Err-build.new.out) (g.K.Sink.written c.args.out.now) (g.K.Sink.written c.refuse-in-Err-build.new.out) (g.K.Sink.keeps_back c.refuse-in-Err-build.new.out) in
+    let output = output_between g.K.Sink c.args.out.now c.refuse-in-Err-build.new.out in
     let refusal = c.in-Err-build.refusal in
     λ is. absurd (building_not_text g.D.Drive.faults c.gather.new.drives.items c.build.new.drives.items refusal c.in-Err-build.ensures.counts
     (text_status output refusal (refusal_line refusal) c.refuse-in-Err-build.result c.refuse-in-Err-build.ensures is))
 
 pub returns-in-Err-clause-told : goal.returns-in-Err-clause-told
 returns-in-Err-clause-told g c =
-    let output = output_between (g.K.Sink.faults c.args.out.now) (g.K.Sink.faults c.refuse.new.out) (g.K.Sink.written c.args.out.now) (g.K.Sink.written c.refuse.new.out) (g.K.Sink.keeps_back c.refuse.new.out) in
+    let output = output_between g.K.Sink c.args.out.now c.refuse.new.out in
     λ seven.
     let of_drives = held_status output c.in-Err.refusal (refusal_line c.in-Err.refusal) c.refuse.result c.refuse.ensures seven in
     record { refusal = c.in-Err.refusal; of_drives = of_drives; by_told = c.in-Err.ensures.told_err of_drives }
 
 pub returns-in-Err-build-clause-told : goal.returns-in-Err-build-clause-told
 returns-in-Err-build-clause-told g c =
-    let output = output_between (g.K.Sink.faults c.args.out.now) (g.K.Sink.faults c.refuse-in-Err-build.new.out) (g.K.Sink.written c.args.out.now) (g.K.Sink.written c.refuse-in-Err-build.new.out) (g.K.Sink.keeps_back c.refuse-in-Err-build.new.out) in
+    let output = output_between g.K.Sink c.args.out.now c.refuse-in-Err-build.new.out in
     let refusal = c.in-Err-build.refusal in
     λ seven. absurd (building_not_held g.D.Drive.faults c.gather.new.drives.items c.build.new.drives.items refusal c.in-Err-build.ensures.counts
     (held_status output refusal (refusal_line refusal) c.refuse-in-Err-build.result c.refuse-in-Err-build.ensures seven))

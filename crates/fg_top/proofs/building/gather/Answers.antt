@@ -3,7 +3,8 @@ use Rattle.std.proofs.lemmas.Result.{IfErr-weaker}
 use Rattle.fg_outside.specs.Drives.{all_told}
 use Rattle.fg_outside.proofs.DriveLemmas.{all_told-length}
 use Rattle.fg_top.proofs.BuildEnds.{cause_of_looking, cause_of_text, looking_not_text, text_not_held}
-use Rattle.fg_top.specs.BuildOutcome.{BuildComesTo, input_over}
+use Rattle.fg_top.specs.BuildOutcome.{BuildComesTo}
+use Rattle.fg_top.specs.Calls.{input_between}
 use Rattle.fg_top.specs.Ends.{IsCause}
 use Rattle.fg_base.specs.Refusal.{status_of}
 use Rattle.fg_report.specs.Refusals.{refusal_line}
@@ -15,9 +16,8 @@ use Rattle.fg_top.proofs.building.gather.Goals as goal
 pub returns-in-Err-clause-cause : goal.returns-in-Err-clause-cause
 returns-in-Err-clause-cause g c =
     let olds = c.args.drives.now.items in
-    let faults = g.S.Source.faults c.args.input.now in
     cause_of_looking g.D.Drive.faults olds c.empty.new.drives.items c.args.undirected (all_told g.D.Drive.held olds)
-    (input_over (g.S.Source.left c.args.input.now) faults faults) c.in-Err.refusal (all_told-length g.D.Drive.held olds) refl c.in-Err.ensures.counts c.in-Err.ensures.says
+    (input_between g.S.Source c.args.input.now c.args.input.now) c.in-Err.refusal (all_told-length g.D.Drive.held olds) refl c.in-Err.ensures.counts c.in-Err.ensures.says
 
 pub returns-clause-cause : goal.returns-clause-cause
 returns-clause-cause g c =
@@ -30,7 +30,7 @@ returns-clause-cause g c =
     let before = g.S.Source.faults old in
     let after = g.S.Source.faults new in
     IfErr-weaker c.read_edges.result (ReadRefused c.args.undirected left (g.S.Source.left new) before after)
-    (λ refusal. IsCause g.D.Drive.faults olds news (BuildComesTo (length olds) c.args.undirected told (input_over left before after)) (Some refusal) (refusal_line refusal))
+    (λ refusal. IsCause g.D.Drive.faults olds news (BuildComesTo (length olds) c.args.undirected told (input_between g.S.Source old new)) (Some refusal) (refusal_line refusal))
     (λ refusal why. cause_of_text g.D.Drive.faults olds news (length olds) c.args.undirected told left (g.S.Source.left new) before after refusal
     (all_told-length g.D.Drive.held olds) c.in_default.ensures.counts c.in_default.ensures.says why)
     c.read_edges.ensures.refused

@@ -1,6 +1,7 @@
 use Rattle.fg_outside.specs.Drives.{all_told}
 use Rattle.fg_report.specs.Refusals.{refusal_line}
-use Rattle.fg_top.specs.Ends.{LeavesHeld, output_between}
+use Rattle.fg_top.specs.Calls.{output_between}
+use Rattle.fg_top.specs.Ends.{LeavesHeld}
 use Rattle.fg_top.specs.Outcome.{run_in}
 use Rattle.fg_top.proofs.BuildDrives.{held_status}
 use Rattle.fg_top.proofs.JobLemmas.{ends_at_head, ends_in_memory_after_head}
@@ -24,7 +25,7 @@ returns-clause-ends g c =
 pub returns-in-Err-clause-told : goal.returns-in-Err-clause-told
 returns-in-Err-clause-told g c =
     let refusal = c.in-Err.refusal in
-    let output = output_between (g.K.Sink.faults c.args.out.now) (g.K.Sink.faults c.refuse.new.out) (g.K.Sink.written c.args.out.now) (g.K.Sink.written c.refuse.new.out) (g.K.Sink.keeps_back c.refuse.new.out) in
+    let output = output_between g.K.Sink c.args.out.now c.refuse.new.out in
     λ seven.
     let of_drives = held_status output refusal (refusal_line refusal) c.refuse.result c.refuse.ensures seven in
     record { refusal = refusal; of_drives = of_drives; by_told = c.in-Err.ensures.told_err of_drives }

@@ -1,7 +1,8 @@
 use Rattle.std.proofs.Common.{ℕ, Some, [], subst, rules}
 use Rattle.fg_model.specs.Program.{Rules}
 use Rattle.fg_model.specs.Run.{run}
-use Rattle.fg_top.specs.Ends.{EndsAlone, output_between}
+use Rattle.fg_top.specs.Calls.{output_over}
+use Rattle.fg_top.specs.Ends.{EndsAlone}
 use Rattle.fg_top.specs.Outcome.{rules_of}
 use Rattle.fg_top.specs.Running.{RunComesTo}
 use Rattle.fg_top.proofs.RunEnds.{closed_not_held, ends_of_run, plain_counts}
@@ -23,7 +24,7 @@ returns-clause-ends g c =
     let last = c.close_run.new.out in
     let At : g.row.K.Denot → Rules → Type 0 = λ sink rules. EndsAlone
     (RunComesTo rules wish (Some graph) (λ graph. run rules graph wish.max))
-    (output_between f0 (g.K.Sink.faults sink) t0 (g.K.Sink.written sink) (g.K.Sink.keeps_back sink)) c.close_run.result in
+    (output_over f0 (g.K.Sink.faults sink) t0 (g.K.Sink.written sink) (g.K.Sink.keeps_back sink)) c.close_run.result in
     let ends : At last P = ends_of_run {D = ℕ} (λ drive. drive) [] [] P wish (Some graph) (λ graph. run P graph wish.max)
     (λ end. Unit {0}) ran.result f0 f1 (g.K.Sink.faults last) t0 t1 (g.K.Sink.written last) (g.K.Sink.keeps_back last) c.close_run.result
     (λ end. tt) ran.ensures.grew ran.ensures.answer (plain_counts ran.result f0 f1 ran.ensures.faults) ran.ensures.shown c.close_run.ensures in

@@ -11,7 +11,8 @@ use Rattle.fg_outside.proofs.DriveLemmas.{EachDrive-same, LogsGrewBy-none}
 use Rattle.fg_build.specs.Asked.{IsAsked}
 use Rattle.fg_build.specs.ToldImage.{graph_over, image_told}
 use Rattle.fg_build.specs.OnlyRead.{telling}
-use Rattle.fg_top.specs.Tallies.{RoseWithin, tallied}
+use Rattle.fg_top.specs.Calls.{tally_between}
+use Rattle.fg_top.specs.Tallies.{RoseWithin}
 use Rattle.fg_top.proofs.PagedLemmas.{few-states, if_any, reads-at, shown-none, tally-at, told-at, went-at}
 use Rattle.fg_top.proofs.TallyLemmas.{none_rose}
 use Rattle.fg_top.proofs.paged.run_paged.Goals as goal
@@ -67,7 +68,7 @@ returns-in_default-clause-tally g c =
     let now = c.args.tally.now in
     if_any (all_told g.D.Drive.held c.args.drives.items)
     (λ helds. RoseWithin ⊥ (begun_of (run P (graph_on c.args.opened helds) c.args.max))
-    (tallied (g.T.Tally.runs now) (g.T.Tally.runs now) (g.T.Tally.entries now) (g.T.Tally.entries now)))
+    (tally_between g.T.Tally now now))
     (λ helds. record { begun = []; are_first = (0, refl); are_all = λ never. absurd never; rose = none_rose (g.T.Tally.runs now) (g.T.Tally.entries now) })
 
 pub returns-in_default-vec-clause-answer : goal.returns-in_default-vec-clause-answer
@@ -79,7 +80,7 @@ returns-in_default-vec-clause-tally g c =
     let now = c.args.tally.now in
     if_any (all_told g.D.Drive.held c.args.drives.items)
     (λ helds. RoseWithin ⊥ (begun_of (run P (graph_on c.args.opened helds) c.args.max))
-    (tallied (g.T.Tally.runs now) (g.T.Tally.runs now) (g.T.Tally.entries now) (g.T.Tally.entries now)))
+    (tally_between g.T.Tally now now))
     (λ helds. record { begun = []; are_first = (0, refl); are_all = λ never. absurd never; rose = none_rose (g.T.Tally.runs now) (g.T.Tally.entries now) })
 
 pub run_engine-answer-requires-clause-opening :

@@ -3,9 +3,11 @@ use Rattle.fg_build.specs.OpeningReads.{opening_reads}
 use Rattle.fg_outside.specs.Drives.{EachSame, LogsGrew, NoneRose, RoomyKept, all_told}
 use Rattle.fg_outside.proofs.DriveLemmas.{EachSame-more, RoomyKept-more, all_told-same}
 use Rattle.fg_report.specs.Refusals.{refusal_line}
-use Rattle.fg_top.specs.Ends.{LeavesHeld, output_between}
+use Rattle.fg_top.specs.Calls.{output_between, tally_between}
+use Rattle.fg_top.specs.Ends.{LeavesHeld}
 use Rattle.fg_top.specs.Outcome.{held_graph, run_on}
-use Rattle.fg_top.specs.Tallies.{CameToEnd, RoseWithin, begins_of, tallied}
+use Rattle.fg_top.specs.Statuses.{CameToEnd}
+use Rattle.fg_top.specs.Tallies.{RoseWithin, begins_of}
 use Rattle.fg_top.proofs.BuildDrives.{held_status}
 use Rattle.fg_top.proofs.JobLemmas.{ends_after_head, ends_at_head, reads_all, reads_none, reads_of_all, tally_of}
 use Rattle.fg_top.proofs.OutcomeLemmas.{runs_so}
@@ -90,14 +92,14 @@ returns-clause-tally g c =
     let now = c.args.tally.now in
     let new = c.run_picked-back.new.tally in
     λ zero. tally_of c.args.wish (all_told g.D.Drive.held olds) (all_told g.D.Drive.held taken) c.in-Ok.opened
-    (tallied (g.T.Tally.runs now) (g.T.Tally.runs new) (g.T.Tally.entries now) (g.T.Tally.entries new))
+    (tally_between g.T.Tally now new)
     (all_told-same g.D.Drive.held olds taken (subst Held moved c.in-Ok.ensures.held)) c.in-Ok.ensures.opening (c.run_picked-back.ensures.tally zero)
 
 pub returns-in-Err-clause-tally_went : goal.returns-in-Err-clause-tally_went
 returns-in-Err-clause-tally_went g c =
     let refusal = c.in-Err.refusal in
     went_refused c.args.wish (all_told g.D.Drive.held c.args.drives.now.items) refusal
-    (output_between (g.K.Sink.faults c.args.out.now) (g.K.Sink.faults c.refuse.new.out) (g.K.Sink.written c.args.out.now) (g.K.Sink.written c.refuse.new.out) (g.K.Sink.keeps_back c.refuse.new.out))
+    (output_between g.K.Sink c.args.out.now c.refuse.new.out)
     (refusal_line refusal) c.refuse.result (g.T.Tally.runs c.args.tally.now) (g.T.Tally.entries c.args.tally.now) c.in-Err.ensures.unbegun c.refuse.ensures
 
 pub returns-in-Err-write_head_of-clause-tally_went : goal.returns-in-Err-write_head_of-clause-tally_went
@@ -105,7 +107,7 @@ returns-in-Err-write_head_of-clause-tally_went g c =
     let now = c.args.tally.now in
     let status = c.status.result in
     if_any (all_told g.D.Drive.held c.args.drives.now.items)
-    (λ helds. RoseWithin (CameToEnd status) (begins_of c.args.wish (held_graph helds)) (tallied (g.T.Tally.runs now) (g.T.Tally.runs now) (g.T.Tally.entries now) (g.T.Tally.entries now)))
+    (λ helds. RoseWithin (CameToEnd status) (begins_of c.args.wish (held_graph helds)) (tally_between g.T.Tally now now))
     (λ helds. went_given_up (begins_of c.args.wish (held_graph helds)) status (g.T.Tally.runs now) (g.T.Tally.entries now) c.status.ensures)
 
 pub returns-clause-tally_went : goal.returns-clause-tally_went
@@ -117,7 +119,7 @@ returns-clause-tally_went g c =
     let now = c.args.tally.now in
     let new = c.run_picked-back.new.tally in
     went_of c.args.wish (all_told g.D.Drive.held olds) (all_told g.D.Drive.held taken) c.in-Ok.opened (CameToEnd c.run_picked-back.result.status)
-    (tallied (g.T.Tally.runs now) (g.T.Tally.runs new) (g.T.Tally.entries now) (g.T.Tally.entries new))
+    (tally_between g.T.Tally now new)
     (all_told-same g.D.Drive.held olds taken (subst Held moved c.in-Ok.ensures.held)) c.in-Ok.ensures.opening c.in-Ok.ensures.sourced c.run_picked-back.ensures.tally_went
 
 pub returns-clause-tally_stands : goal.returns-clause-tally_stands
@@ -126,7 +128,7 @@ returns-clause-tally_stands g c = λ seven. absurd (c.run_picked-back.ensures.be
 pub returns-in-Err-clause-told : goal.returns-in-Err-clause-told
 returns-in-Err-clause-told g c =
     let refusal = c.in-Err.refusal in
-    let output = output_between (g.K.Sink.faults c.args.out.now) (g.K.Sink.faults c.refuse.new.out) (g.K.Sink.written c.args.out.now) (g.K.Sink.written c.refuse.new.out) (g.K.Sink.keeps_back c.refuse.new.out) in
+    let output = output_between g.K.Sink c.args.out.now c.refuse.new.out in
     λ seven.
     let of_drives = held_status output refusal (refusal_line refusal) c.refuse.result c.refuse.ensures seven in
     record { refusal = refusal; of_drives = of_drives; by_told = c.in-Err.ensures.told_err of_drives }

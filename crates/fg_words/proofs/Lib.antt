@@ -1,0 +1,5 @@
+mod FoundLemmas
+mod GrammarLemmas
+mod JobLaws
+mod NumberLemmas
+mod Rows

@@ -1,0 +1,63 @@
+//! The options of the command line: their names, in their order, and which of them are flags.
+
+ghost use Rattle.std.specs.Prelude.{◌≡◌};
+ghost use Rattle.fg_base.specs.Options.{option_name};
+ghost use Rattle.fg_words.specs.Options.{is_flag, options, table};
+
+use fg_base::Opt;
+
+/// The options, and the drives behind them, in the order in which refusals look at them.
+pub(crate) static TABLE: [Opt; 15] = [
+    Opt::Program,
+    Opt::Source,
+    Opt::Max,
+    Opt::Cut,
+    Opt::Each,
+    Opt::Quiet,
+    Opt::Unit,
+    Opt::Number,
+    Opt::Undirected,
+    Opt::Input,
+    Opt::Start,
+    Opt::Nodes,
+    Opt::Edges,
+    Opt::Drives,
+    Opt::Drive,
+];
+
+/// The options that are written with a name.
+pub(crate) fn named_options() -> &'static [Opt]
+    ensures { result.now ≡ options }
+{
+    &TABLE[..TABLE.len() - 1]
+}
+
+/// The option's name, as it is written behind `--`.
+pub(crate) fn name_of<'a>(option: Opt) -> &'a str
+    ensures { result.now ≡ option_name option }
+{
+    match option {
+        Opt::Program => "program",
+        Opt::Source => "source",
+        Opt::Max => "max",
+        Opt::Cut => "cut",
+        Opt::Each => "each",
+        Opt::Quiet => "quiet",
+        Opt::Unit => "unit",
+        Opt::Number => "number",
+        Opt::Undirected => "undirected",
+        Opt::Input => "input",
+        Opt::Start => "start",
+        Opt::Nodes => "nodes",
+        Opt::Edges => "edges",
+        Opt::Drives => "drives",
+        Opt::Drive => "drive",
+    }
+}
+
+/// Whether the option has no value: it is on where it is there.
+pub(crate) fn is_flag(option: Opt) -> bool
+    ensures { result ≡ is_flag option }
+{
+    matches!(option, Opt::Each | Opt::Quiet | Opt::Undirected)
+}
