@@ -1,6 +1,7 @@
 //! Why a job was refused, and the status that the program ends with.
 
-ghost use Rattle.std.specs.Prelude.{◌≡◌};
+ghost use Rattle.std.specs.Prelude.{◌≡◌, ◌≤◌, length};
+ghost use Rattle.fg_base.specs.Options.{option_name};
 ghost use Rattle.fg_base.specs.Refusal.{status_of};
 
 use crate::{BadEdge, Dir};
@@ -25,6 +26,32 @@ pub enum Opt {
     Drives,
     /// The drives behind the options.
     Drive,
+}
+
+impl Opt {
+    /// The option's name as it is written behind `--`.
+    pub fn name(self) -> &'static str
+        ensures name { result.now ≡ option_name self }
+        ensures short { length result.now ≤ 10 }
+    {
+        match self {
+            Opt::Program => "program",
+            Opt::Source => "source",
+            Opt::Max => "max",
+            Opt::Cut => "cut",
+            Opt::Each => "each",
+            Opt::Quiet => "quiet",
+            Opt::Unit => "unit",
+            Opt::Number => "number",
+            Opt::Undirected => "undirected",
+            Opt::Input => "input",
+            Opt::Start => "start",
+            Opt::Nodes => "nodes",
+            Opt::Edges => "edges",
+            Opt::Drives => "drives",
+            Opt::Drive => "drive",
+        }
+    }
 }
 
 /// What is wrong with the words of the command line.

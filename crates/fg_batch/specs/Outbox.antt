@@ -74,9 +74,13 @@ pub record AreBatches (sending : Sending) (block : ℕ) (batches : List Batch) :
   pub lanes : each told_by batches ≡ lanes_with_mail block (lanes_each sending.map) sending.lanes
   pub fit : All (IsForItsPart sending.map) batches
 
+-- all messages in batches
+abbrev pub mail_in : List Batch → List Mail
+mail_in batches = flat_map (λ (batch : Batch). batch.mails.items) batches
+
 -- what stands in the batches of a part
 abbrev pub batched_for : ℕ → List Batch → List Mail
-batched_for part batches = flat_map (λ (batch : Batch). batch.mails.items) (filter (λ (batch : Batch). batch.part == part) batches)
+batched_for part batches = mail_in (filter (λ (batch : Batch). batch.part == part) batches)
 
 -- where these messages were sent, the batches of a vertex's part have all that was sent to the vertex, in order
 abbrev pub HoldsAllSent : Sending → Sending → Type 0

@@ -52,6 +52,14 @@ impl Mails {
         self.words.is_empty()
     }
 
+    /// How many there are.
+    #[tactic(auto, using(crate::proofs::MailsLaws::length_unpacked))]
+    pub fn len(&self) -> usize
+        ensures { result ≡ length self.now.items }
+    {
+        self.words.len()
+    }
+
     /// Takes memory for so many messages more.
     pub fn reserve(&mut self, count: usize) -> Result<(), Memory>
         ensures items { self.new.items ≡ self.old.items }

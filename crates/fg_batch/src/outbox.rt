@@ -78,8 +78,17 @@ impl Outbox {
         ensures room { (k : ℕ) → HasRoom k self.old → HasRoom k self.new }
     {
         let batches = copies(alloc, self.map, self.lanes_of_part, block, &self.lanes)?;
-        clear_all(&mut self.lanes);
+        self.clear();
         Ok(batches)
+    }
+
+    /// Takes out what was sent, for nobody. It keeps the room.
+    pub fn clear(&mut self)
+        ensures empty { IsUnsent self.new }
+        ensures map { self.new.map ≡ self.old.map }
+        ensures room { (k : ℕ) → HasRoom k self.old → HasRoom k self.new }
+    {
+        clear_all(&mut self.lanes);
     }
 
     /// What is sent to a vertex goes along one lane, in the order in which it was sent. A call does nothing when it runs; it gives

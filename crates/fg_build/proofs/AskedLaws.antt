@@ -6,7 +6,8 @@ use Rattle.std.specs.List.{Contains}
 use Rattle.fg_base.specs.declared.plain.Dir.{Dir}
 use Rattle.fg_base.specs.declared.plain.Need.{Need}
 use Rattle.fg_build.specs.declared.opened.Opened.{Opened}
-use Rattle.fg_build.specs.Asked.{HasAsked, HoldsSome, IsAsked, IsAskedPage, IsNeededBySome, IsNeededPage, IsReadFor, IsReadForSome, dirs_of}
+use Rattle.fg_build.specs.Asked.{HasAsked, IsAsked, IsAskedPage, IsReadFor, IsReadForSome}
+use Rattle.fg_image.specs.Needed.{HoldsSome, IsNeededBySome, IsNeededPage, dirs_of}
 use Rattle.fg_build.specs.OnlyRead.{OnlyRead, ReadsPages, Telling, pages_read}
 use Rattle.fg_build.specs.OpeningReads.{page_read}
 use Rattle.fg_image.specs.Lists.{begin_of, end_of}

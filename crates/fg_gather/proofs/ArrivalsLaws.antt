@@ -1,27 +1,25 @@
 -- What came to the vertices, after a delivery and where nothing came.
-use Rattle.std.proofs.Common.{◌≡◌, ◌≢◌, ℕ, ◌+◌, ◌<◌, ◌^◌, ◌==◌, Bool, true, false, List, [], ◌∷◌, ◌++◌, Option, None, length, get_or, replicate, map, refl, subst, sym, ap, ◌∙◌, arith, lit<, suc, eq-eqb}
+use Rattle.std.proofs.Common.{◌≡◌, ◌≢◌, ℕ, ◌+◌, ◌<◌, ◌^◌, ◌==◌, Bool, true, false, List, [], ◌∷◌, ◌++◌, Option, None, length, get_or, map, refl, subst, sym, ap, ◌∙◌, arith, lit<, eq-eqb}
 use Rattle.std.proofs.lemmas.Bool.{ne_eqb, eqb-true}
-use Rattle.std.proofs.lemmas.List.{get_or-map, get_or-replicate, length-replicate, map-append}
-use Rattle.std.proofs.lemmas.List.Elements.{All-append, All-head, All-nil, All-replicate, All-tail, All-weaker, filter-append}
-use Rattle.std.proofs.lemmas.List.FromFn.{get_or-enumerate_from, length-enumerate_from}
+use Rattle.std.proofs.lemmas.List.{map-append}
+use Rattle.std.proofs.lemmas.List.Elements.{All-append, All-head, All-nil, All-tail, All-weaker, filter-append}
 use Rattle.std.proofs.lemmas.List.Sorted.{All-permutation, IsPermutation-sym}
 use Rattle.std.proofs.lemmas.List.Sums.{fold-append}
 use Rattle.std.proofs.Math.Nat.{mod-lt}
 use Rattle.std.specs.Prelude.{All, IsPermutation, filter, fold}
-use Rattle.std.specs.List.{enumerate_from}
 use Rattle.fg_base.specs.declared.plain.VState.{VState}
 use Rattle.fg_batch.proofs.FoldLaws.{Fits, folds, folds-fit}
 use Rattle.fg_batch.specs.declared.batch.Batch.{Batch}
 use Rattle.fg_batch.specs.Inbox.{held_at, received, with_all}
 use Rattle.fg_batch.specs.Lanes.{IsFor, lanes_each}
-use Rattle.fg_batch.specs.Outbox.{IsForItsPart, batched_for}
+use Rattle.fg_batch.specs.Outbox.{IsForItsPart, batched_for, mail_in}
 use Rattle.fg_gather.proofs.DeliverLaws.{lanes-permuted}
 use Rattle.fg_gather.proofs.PieceLaws.{all-behind, all-first}
 use Rattle.fg_gather.specs.Arrivals.{AreFit, HasCome, came_to}
-use Rattle.fg_gather.specs.Deliver.{mail_for, mail_in}
-use Rattle.fg_model.proofs.MailLemmas.{folded-permutation}
+use Rattle.fg_gather.specs.Deliver.{mail_for}
+use Rattle.fg_model.proofs.MailLemmas.{vertex_in_any_order}
 use Rattle.fg_model.specs.declared.mail.Mail.{Mail}
-use Rattle.fg_model.specs.Iteration.{folded, sent_to, state_at}
+use Rattle.fg_model.specs.Iteration.{sent_to}
 use Rattle.fg_model.specs.Program.{IsInRange, IsLawful, Rules}
 use Rattle.fg_part.specs.declared.part_map.PartMap.{PartMap}
 use Rattle.fg_part.specs.PartMap.{block_of, part_of, places_in}
@@ -31,27 +29,8 @@ sent_to-append v first next =
     ap (map (λ (one : Mail). one.message)) (filter-append (λ (one : Mail). one.target == v) first next)
     ∙ map-append (λ (one : Mail). one.message) (filter (λ (one : Mail). one.target == v) first) (filter (λ (one : Mail). one.target == v) next)
 
--- a vertex's mail in any order
 abbrev blank : VState
 blank = record { a = 0; b = 0; c = 0 }
-
-folded_at : (P : Rules) (mail : List Mail) (v : ℕ) (states : List VState) → v < length states → state_at (folded P mail states) v ≡ fold P.receive (state_at states v) (sent_to v mail)
-unfolding folded
-folded_at P mail v states below =
-    let fold_in : ℕ × VState → VState = λ (v, s). fold P.receive s (sent_to v mail) in
-    let longer : v < length (enumerate_from 0 states) = omega (arith, below, length-enumerate_from 0 states) in
-    get_or-map fold_in (enumerate_from 0 states) v (v, blank) blank longer
-    ∙ ap fold_in (get_or-enumerate_from 0 states v (v, blank) below ∙ (let e : 0 + v ≡ v = omega arith in rw e refl))
-
-pub any-order : (P : Rules) → IsLawful P → (v : ℕ) (s : VState) → IsInRange s → (xs ys : List Mail) → IsPermutation xs ys → AreFit xs
-    → fold P.receive s (sent_to v xs) ≡ fold P.receive s (sent_to v ys)
-any-order P lawful v s s_fits xs ys same fit =
-    let states = replicate (suc v) s in
-    let below : v < length states = omega (arith, length-replicate (suc v) s) in
-    let here : state_at states v ≡ s = get_or-replicate (suc v) v s blank (omega arith) in
-    let step : (mail : List Mail) → fold P.receive s (sent_to v mail) ≡ state_at (folded P mail states) v =
-    λ mail. sym (folded_at P mail v states below ∙ ap (λ (t : VState). fold P.receive t (sent_to v mail)) here) in
-    step xs ∙ ap (λ (now : List VState). state_at now v) (folded-permutation P lawful xs ys same fit states (All-replicate IsInRange (suc v) s s_fits)) ∙ sym (step ys)
 
 -- states stay in range
 pub fold-fits : (P : Rules) → IsLawful P → (xs : List ℕ) (s : VState) → All (λ (x : ℕ). x < 2 ^ 64) xs → IsInRange s → IsInRange (fold P.receive s xs)
@@ -163,7 +142,7 @@ module _ (P : Rules) (lawful : IsLawful P) (map : PartMap) (parts now : List (Li
         ap (λ (o : Option ℕ). received P o s) (more v)
         ∙ folds P lawful map part v vertex refl s s_fits (lanes_of part) held (count part (own_part v)) (lanes_own part) (lanes_fit part) (came.number_fits v vertex)
         ∙ ap (λ (u : VState). fold P.receive u (sent_to v (lanes_of part))) (came.folds v s vertex s_fits)
-        ∙ any-order P lawful v t t_fits (lanes_of part) (batched_for part batches) (permuted part) (lanes_fit part)
+        ∙ vertex_in_any_order P lawful v (lanes_of part) (batched_for part batches) (permuted part) (lanes_fit part) t t_fits
         ∙ ap (fold P.receive t) (batched-sent map v batches fit)
         ∙ sym (ap (fold P.receive s) (sent_to-append v mail (mail_in batches)) ∙ fold-append P.receive s (sent_to v mail) (sent_to v (mail_in batches)));
   }

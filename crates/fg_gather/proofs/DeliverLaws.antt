@@ -11,8 +11,8 @@ use Rattle.std.specs.Prelude.{All, IsPermutation, filter}
 use Rattle.std.specs.List.{flat_map, range_with_len}
 use Rattle.fg_batch.specs.declared.batch.Batch.{Batch}
 use Rattle.fg_batch.specs.Inbox.{with_all, with_mail}
-use Rattle.fg_batch.specs.Outbox.{batched_for}
-use Rattle.fg_gather.specs.Deliver.{is_along, mail_along, mail_for, mail_in}
+use Rattle.fg_batch.specs.Outbox.{batched_for, mail_in}
+use Rattle.fg_gather.specs.Deliver.{is_along, mail_along, mail_for}
 use Rattle.fg_model.specs.declared.mail.Mail.{Mail}
 use Rattle.fg_model.specs.Program.{Rules}
 use Rattle.fg_part.specs.declared.part_map.PartMap.{PartMap}

@@ -4,11 +4,12 @@ use Rattle.std.proofs.lemmas.List.{ext_get_or, get_or_default}
 use Rattle.std.specs.Prelude.{IsPermutation, fold, if◌then◌else◌}
 use Rattle.fg_base.specs.declared.plain.VState.{VState}
 use Rattle.fg_batch.specs.Inbox.{received}
-use Rattle.fg_gather.proofs.ArrivalsLaws.{any-order, fold-fits, sent-fit}
+use Rattle.fg_gather.proofs.ArrivalsLaws.{fold-fits, sent-fit}
 use Rattle.fg_gather.specs.Arrivals.{HasCome, came_to}
 use Rattle.fg_gather.specs.Gather.{AreGathered, IsIterated, run_state}
 use Rattle.fg_gather.specs.Marks.{AreMarks}
 use Rattle.fg_model.proofs.AfterLemmas.{after_at, length-after}
+use Rattle.fg_model.proofs.MailLemmas.{vertex_in_any_order}
 use Rattle.fg_model.specs.declared.graph.Graph.{Graph}
 use Rattle.fg_model.specs.declared.mail.Mail.{Mail}
 use Rattle.fg_model.specs.Iteration.{AreStates, after, mail, own_state, sent_to, state_at}
@@ -77,7 +78,7 @@ module _ (P : Rules) (lawful : IsLawful P) (map : PartMap) (phase : ℕ) (parts 
         let inside : v < length old = omega (arith, below, gathered.count) in
         let vertex : v < map.n = omega (arith, inside, states.state_count) in
         folded_at v vertex
-        ∙ any-order P lawful v (own v) (own_fits v vertex) came (mail P graph phase old) (IsPermutation-sym (mail P graph phase old) came same) has.all_fit
+        ∙ vertex_in_any_order P lawful v came (mail P graph phase old) (IsPermutation-sym (mail P graph phase old) came same) has.all_fit (own v) (own_fits v vertex)
         ∙ sym (after_at P graph phase v old inside))
 
   pub is_iterated : IsIterated P map phase parts old new

@@ -5,16 +5,13 @@ use Rattle.std.specs.declared.vec.Vec.{Vec}
 use Rattle.fg_batch.specs.declared.batch.Batch.{Batch}
 use Rattle.fg_batch.specs.Inbox.{Holding, with_all}
 use Rattle.fg_batch.specs.Lanes.{lanes_each}
+use Rattle.fg_batch.specs.Outbox.{mail_in}
 use Rattle.fg_model.specs.declared.mail.Mail.{Mail}
 use Rattle.fg_model.specs.Program.{Rules}
 
 -- all batches of a wave
 abbrev pub batches_in : {Z : Type 0} → List (Vec Batch Z) → List Batch
 batches_in wave = flat_map (λ batches. batches.items) wave
-
--- all messages in batches
-abbrev pub mail_in : List Batch → List Mail
-mail_in batches = flat_map (λ batch. batch.mails.items) batches
 
 -- a batch stands in this lane of the part
 abbrev pub is_along : ℕ → ℕ → Batch → Bool

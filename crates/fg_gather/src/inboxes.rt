@@ -1,11 +1,11 @@
 //! What came to all parts.
 
 ghost use Rattle.std.specs.Prelude.{◌≡◌, ℕ, ◌+◌, ◌*◌, ◌<◌, ◌≤◌, ◌++◌, false, [], None, List, All, IfOk, length, slice_index_or};
-ghost use Rattle.fg_batch.specs.Outbox.{IsForItsPart};
+ghost use Rattle.fg_batch.specs.Outbox.{IsForItsPart, mail_in};
 ghost use Rattle.fg_gather.specs.Arrivals.{AreFit, AreInboxes, HasCome, HasNone, IsEmptied, came_to};
 ghost use Rattle.fg_batch.specs.Inbox.{Holding};
 ghost use Rattle.fg_model.specs.Program.{IsLawful};
-ghost use Rattle.fg_gather.specs.Deliver.{batches_in, mail_in};
+ghost use Rattle.fg_gather.specs.Deliver.{batches_in};
 ghost use Rattle.fg_gather.specs.Gather.{IsIterated};
 ghost use Rattle.fg_gather.specs.Marks.{AreMarks};
 ghost use Rattle.fg_model.specs.declared.mail.Mail.{Mail as MailIn};

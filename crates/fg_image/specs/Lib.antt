@@ -5,4 +5,5 @@ pub mod Image
 pub mod Lists
 pub mod Made
 pub mod Making
+pub mod Needed
 pub mod Turned

@@ -55,7 +55,7 @@ length-runs : (P : Rules) (phase : ℕ) (states : List VState) → length (state
 unfolding states_after_runs
 length-runs P phase states = length-map (enumerate_from 0 states) (λ (v, s). own_state P phase v s) ∙ length-enumerate_from 0 states
 
-folded_at : (P : Rules) (messages : List Mail) (v : ℕ) (states : List VState) → v < length states → state_at (folded P messages states) v ≡ fold P.receive (state_at states v) (sent_to v messages)
+pub folded_at : (P : Rules) (messages : List Mail) (v : ℕ) (states : List VState) → v < length states → state_at (folded P messages states) v ≡ fold P.receive (state_at states v) (sent_to v messages)
 unfolding folded zero_state
 folded_at P messages v states below =
     let fold_in : ℕ × VState → VState = λ (v, s). fold P.receive s (sent_to v messages) in

@@ -96,7 +96,8 @@ step_order P lawful v s one other s_fits one_fits other_fits = by_test (one.targ
     by_test false true = refl
     by_test false false = refl
 
-vertex_in_any_order : (P : Rules) → IsLawful P → (v : ℕ) (mail other : List Mail) → IsPermutation mail other → All (λ (message : Mail). message.message < 2 ^ 64) mail
+-- a vertex's mail in any order is folded to the same state
+pub vertex_in_any_order : (P : Rules) → IsLawful P → (v : ℕ) (mail other : List Mail) → IsPermutation mail other → All (λ (message : Mail). message.message < 2 ^ 64) mail
     → (s : VState) → IsInRange s → fold P.receive s (sent_to v mail) ≡ fold P.receive s (sent_to v other)
 vertex_in_any_order P lawful v mail other is fit s s_fits =
     fold-sent_to P v s mail

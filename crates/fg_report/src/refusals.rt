@@ -12,30 +12,6 @@ use crate::line::{LINE_BYTES, Line, push_number};
 use fg_base::{BadEdge, Dir, Failed, Opt, Refusal, WordFault};
 use fg_outside::{Sink, write_all};
 
-/// The option's name as it is written.
-fn name_of(option: Opt) -> &'static str
-    ensures name { result.now ≡ option_name option }
-    ensures short { length result.now ≤ 10 }
-{
-    match option {
-        Opt::Program => "program",
-        Opt::Source => "source",
-        Opt::Max => "max",
-        Opt::Cut => "cut",
-        Opt::Each => "each",
-        Opt::Quiet => "quiet",
-        Opt::Unit => "unit",
-        Opt::Number => "number",
-        Opt::Undirected => "undirected",
-        Opt::Input => "input",
-        Opt::Start => "start",
-        Opt::Nodes => "nodes",
-        Opt::Edges => "edges",
-        Opt::Drives => "drives",
-        Opt::Drive => "drive",
-    }
-}
-
 /// The direction as it is written.
 fn direction(dir: Dir) -> &'static str
     ensures name { result.now ≡ direction_name dir }
@@ -55,7 +31,7 @@ fn push_option(line: &mut Line, fault: &str, option: Opt)
     ensures len { array_string_len line.new ≤ array_string_len line.old + 20 }
 {
     line.push_str(fault);
-    line.push_str(name_of(option));
+    line.push_str(option.name());
 }
 
 /// Appends what is wrong with the words.

@@ -14,7 +14,8 @@ use Rattle.fg_stripe.specs.declared.layout.Layout.{Layout}
 use Rattle.fg_stripe.specs.Striping.{pages_on}
 use Rattle.fg_top.specs.declared.lists.Part.{Part}
 use Rattle.fg_top.specs.declared.lists.Stretch.{Stretch}
-use Rattle.fg_build.specs.Asked.{HoldsSome, IsReadFor, dirs_of}
+use Rattle.fg_build.specs.Asked.{IsReadFor}
+use Rattle.fg_image.specs.Needed.{HoldsSome, dirs_of}
 use Rattle.fg_build.proofs.AskedLaws.{OnlyRead-more, OnlyRead-needed, OnlyRead-one}
 use Rattle.fg_top.specs.Lists.{IsPartBehind, behind, stretch_of, IsPageIn}
 use Rattle.fg_build.specs.OnlyRead.{OnlyRead, Telling}

@@ -4,7 +4,7 @@ ghost use Rattle.std.specs.Prelude.{◌≡◌, IfOk, false, fold};
 ghost use Rattle.clap.specs.Words.{app_of, rule_of, with_rule};
 ghost use Rattle.fg_words.specs.Grammar.{bare, command_rule, drive_rule, grammar, option_rule, with_option};
 
-use crate::options::{is_flag, name_of, named_options};
+use crate::options::{is_flag, named_options};
 use clap::{Arg, ArgAction, Command};
 use fg_base::Opt;
 use std::alloc::{AllocError, Global};
@@ -35,7 +35,7 @@ fn option_argument<'a>(alloc: Global, option: Opt) -> Arg<'a>
     ensures rule { rule_of result ≡ option_rule option }
     ensures local { result.global ≡ false }
 {
-    let name = name_of(option);
+    let name: &'a str = option.name();
     let action = if is_flag(option) {
         ArgAction::SetTrue
     } else {

@@ -1,7 +1,6 @@
 //! The options of the command line: their names, in their order, and which of them are flags.
 
 ghost use Rattle.std.specs.Prelude.{◌≡◌};
-ghost use Rattle.fg_base.specs.Options.{option_name};
 ghost use Rattle.fg_words.specs.Options.{is_flag, options, table};
 
 use fg_base::Opt;
@@ -30,29 +29,6 @@ pub(crate) fn named_options() -> &'static [Opt]
     ensures { result.now ≡ options }
 {
     &TABLE[..TABLE.len() - 1]
-}
-
-/// The option's name, as it is written behind `--`.
-pub(crate) fn name_of<'a>(option: Opt) -> &'a str
-    ensures { result.now ≡ option_name option }
-{
-    match option {
-        Opt::Program => "program",
-        Opt::Source => "source",
-        Opt::Max => "max",
-        Opt::Cut => "cut",
-        Opt::Each => "each",
-        Opt::Quiet => "quiet",
-        Opt::Unit => "unit",
-        Opt::Number => "number",
-        Opt::Undirected => "undirected",
-        Opt::Input => "input",
-        Opt::Start => "start",
-        Opt::Nodes => "nodes",
-        Opt::Edges => "edges",
-        Opt::Drives => "drives",
-        Opt::Drive => "drive",
-    }
 }
 
 /// Whether the option has no value: it is on where it is there.

@@ -7,7 +7,6 @@ ghost use Rattle.fg_words.specs.Reading.{IsReading, command_in, drives_in, refus
 
 use crate::grammar::grammar;
 use crate::jobs::JobFault;
-use crate::options::name_of;
 use clap::error::ErrorKind;
 use clap::parser::ValueSource;
 use clap::{ArgMatches, Error};
@@ -57,7 +56,7 @@ fn has_option(found: &ArgMatches<'_>, name: &str) -> bool
 pub(crate) fn value_of<'a>(found: &ArgMatches<'a>, option: Opt) -> Option<&'a str>
     ensures { option_map (λ value. value.now) result ≡ value_of option (rows_in found.now) }
 {
-    let name = name_of(option);
+    let name = option.name();
     if has_option(found, name) {
         found.get_str(name)
     } else {

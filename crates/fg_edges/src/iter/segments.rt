@@ -30,7 +30,7 @@ impl Segments {
     ghost use Rattle.fg_edges.specs.Segments.{whole_list, IsOnPages};
 
     /// The segments of the list of `count` entries that begins at this byte of the image.
-    pub(crate) fn of_list(weighted: bool, at: usize, count: u32) -> Segments
+    pub fn of_list(weighted: bool, at: usize, count: u32) -> Segments
         requires { IsOnPages (whole_list weighted at count) }
         ensures { result ≡ whole_list weighted at count }
     {

@@ -5,5 +5,5 @@ use Rattle.fg_words.proofs.reading.value_of.Goals as goal
 
 pub returns-then-has_option : goal.returns-then-has_option
 returns-then-has_option c =
-    c.get_str.ensures ∙ value_there (found_of c.args.found.now) c.args.option c.name_of-name.result.now c.name_of-name.ensures
+    c.get_str.ensures ∙ value_there (found_of c.args.found.now) c.args.option c.name-name.result.now c.name-name.ensures.name
     (sym c.has_option.ensures ∙ c.if-has_option.true)

@@ -2,7 +2,8 @@ use Rattle.std.proofs.Common.{◌≡◌, ◌++◌, List, length, ap, sym, subst,
 use Rattle.fg_gather.proofs.ArrivalsLaws.{came-more}
 use Rattle.fg_gather.proofs.InboxesLaws.{count-of, delivered-inboxes, delivered-took, whole-again}
 use Rattle.fg_gather.specs.Arrivals.{AreInboxes, HasCome, held_in_each}
-use Rattle.fg_gather.specs.Deliver.{batches_in, mail_in}
+use Rattle.fg_gather.specs.Deliver.{batches_in}
+use Rattle.fg_batch.specs.Outbox.{mail_in}
 use Rattle.fg_gather.proofs.inboxes.Inboxes.deliver.Goals as goal
 
 pub invariant_of-self : goal.invariant_of-self
