@@ -12,6 +12,7 @@ pub mod LimitLaws
 pub mod MakingLaws
 pub mod MirrorLaws
 pub mod PartsLaws
+pub mod PassLaws
 pub mod PlaceLaws
 pub mod RangeLaws
 pub mod SectionBytesLaws

@@ -94,8 +94,8 @@ fn count_outs(index: &Index) -> usize
 /// - `NotMirror`: of the least vertex.
 ///
 /// Besides the image and its index this takes 8 bytes per vertex and, for each out-entry and each entry of the longest
-/// in-list, as many bytes as an entry has. The out-lists are gone through three times, the in-lists twice, and the entries
-/// of each vertex are sorted.
+/// in-list, as many bytes as an entry has. The out-lists are gone through ten times, in eight of them for the entries that
+/// lead to an eighth of the vertices; the in-lists are gone through twice, and the entries of each vertex are sorted.
 pub fn check_sections(
     alloc: Global,
     header: &Header,
