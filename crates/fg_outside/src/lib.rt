@@ -5,10 +5,12 @@
 //! stands `fg_base` with the words for what is told and for counts of faults.
 #![tactic(auto)]
 
+mod board;
 mod drive;
 mod drives;
 mod fault_count;
 mod file_drive;
+mod gate_drive;
 mod mem_drive;
 mod mem_sink;
 mod mem_source;
@@ -18,9 +20,11 @@ mod source;
 mod std_sink;
 mod std_source;
 
+pub use board::Board;
 pub use drive::{Drive, Read};
 pub use drives::{count_pages, read_page};
 pub use file_drive::FileDrive;
+pub use gate_drive::GateDrive;
 pub use mem_drive::{DriveOp, MEM_DRIVE_BYTES, MemDrive};
 pub use mem_sink::MemSink;
 pub use mem_source::MemSource;
