@@ -33,6 +33,8 @@ mod share;
 mod shelf;
 mod slips;
 mod stock;
+#[cfg(test)]
+mod tests;
 mod usage;
 mod wanted;
 

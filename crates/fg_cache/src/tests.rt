@@ -1,0 +1,4 @@
+//! Caches over drives in memory.
+
+mod calls;
+mod threads;
