@@ -1,0 +1,7 @@
+pub mod Jobs
+pub mod Least
+pub mod Running
+pub mod Groups
+pub mod Book
+pub mod Blocks
+pub mod Spending
