@@ -1,0 +1,10 @@
+pub mod CaseLaws
+pub mod ListLaws
+pub mod SpendingLaws
+pub mod DealLaws
+pub mod DrawLaws
+pub mod SpendLaws
+pub mod WaveLaws
+pub mod TellingLaws
+pub mod KeptLaws
+pub mod SlotLaws

@@ -1,0 +1,4 @@
+pub mod Claimed
+pub mod Wave
+pub mod Slots
+pub mod OneRunEach

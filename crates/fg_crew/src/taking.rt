@@ -1,0 +1,82 @@
+//! Seats and results are taken back from the workers of a wave.
+
+ghost use Rattle.std.specs.Prelude.{◌≡◌, ◌++◌, ◌∷◌, [], All, IfErr, OnOk, map};
+ghost use Rattle.std.specs.List.{flat_map};
+ghost use Rattle.fg_task.specs.Blocks.{HasCause};
+ghost use Rattle.fg_task.specs.declared.block_result.WorkFault.{WorkFault};
+ghost use Rattle.fg_crew.specs.Slots.{FaultHasCause, HasEndedWell, results_at, seat_at};
+
+use crate::slot::{Desk, Slot};
+use fg_task::{BlockResult, RunsBlock, WorkFault};
+use fg_steal::Seat;
+
+/// Takes the seats and the results of all slots in order, up to the first worker that failed.
+pub(crate) fn take_back<K, B: RunsBlock<K>>(
+    runner: &B,
+    slots: &mut [Slot<K, B::Fault>],
+    seats: &mut Vec<Seat>,
+    results: &mut Vec<BlockResult>,
+) -> Result<(), WorkFault<B::Fault>>
+    requires faults { All (FaultHasCause (B.caused runner.now)) slots.old }
+    ensures kept { map (λ slot. slot.kept) slots.new ≡ map (λ slot. slot.kept) slots.old }
+    ensures ended { OnOk result (All HasEndedWell slots.old) }
+    ensures seats { OnOk result (seats.new.items ≡ seats.old.items ++ flat_map seat_at slots.old) }
+    ensures results { OnOk result (results.new.items ≡ results.old.items ++ flat_map results_at slots.old) }
+    ensures fault { IfErr result (λ fault. HasCause (B.caused runner.now) fault) }
+{
+    for k in 0..slots.len() {
+        match take_one(runner, &mut slots[k], seats, results) {
+            Ok(()) => {}
+            Err(fault) => return Err(fault),
+        }
+    }
+    Ok(())
+}
+
+/// Takes the seat and the results of a slot.
+fn take_one<K, B: RunsBlock<K>>(
+    runner: &B,
+    slot: &mut Slot<K, B::Fault>,
+    seats: &mut Vec<Seat>,
+    results: &mut Vec<BlockResult>,
+) -> Result<(), WorkFault<B::Fault>>
+    requires faults { FaultHasCause (B.caused runner.now) slot.old }
+    ensures kept { slot.new.kept ≡ slot.old.kept }
+    ensures ended { OnOk result (HasEndedWell slot.old) }
+    ensures seats { OnOk result (seats.new.items ≡ seats.old.items ++ seat_at slot.old) }
+    ensures results { OnOk result (results.new.items ≡ results.old.items ++ results_at slot.old) }
+    ensures fault { IfErr result (λ fault. HasCause (B.caused runner.now) fault) }
+{
+    let Some(desk) = slot.desk.take() else {
+        return Err(WorkFault::Memory);
+    };
+    let Desk {
+        seat,
+        results: mut more,
+        end,
+    } = desk;
+    match end {
+        Ok(()) => keep(seat, &mut more, seats, results),
+        Err(fault) => Err(fault),
+    }
+}
+
+/// Keeps a seat and results behind the others.
+fn keep<F: Drop>(
+    seat: Seat,
+    more: &mut Vec<BlockResult>,
+    seats: &mut Vec<Seat>,
+    results: &mut Vec<BlockResult>,
+) -> Result<(), WorkFault<F>>
+    ensures seats { OnOk result (seats.new.items ≡ seats.old.items ++ seat ∷ []) }
+    ensures results { OnOk result (results.new.items ≡ results.old.items ++ more.old.items) }
+    ensures memory { IfErr result (λ fault. fault ≡ WorkFault.Memory) }
+{
+    let Ok(()) = seats.push(seat) else {
+        return Err(WorkFault::Memory);
+    };
+    let Ok(()) = results.append(more) else {
+        return Err(WorkFault::Memory);
+    };
+    Ok(())
+}
