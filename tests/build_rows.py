@@ -4,7 +4,7 @@ from samples import (
     DETOUR, DETOUR_TEXT, G1, G1_BUILT, G1_DRIVE, G1_EDGES, G1_TEXT, HEADER, INDEX, LONG_DEGREES, LONG_STAR, LONG_TEXT,
     LOOP, LOOP_TEXT, PAIR, RANK_TEXT, STAR, WEIGHTED, WEIGHTED_TEXT, star_text)
 from texts import Refused, edges_of, text_of_edges
-from transcripts import TOP, Call, Row, names, one, prints, refused
+from transcripts import Call, Row, names, one, prints, refused
 
 # the text of WEIGHTED with comments, tabs, carriage returns, a repeat and a last line without its end
 DIRECTED = (b'# Directed graph\r\n# FromNodeId\tToNodeId\r\n'
@@ -21,8 +21,6 @@ LAST_INDEX = b'\1' + bytes(LAST) + bytes(4) + bytes(LAST) + b'\1' + bytes(4)
 LAST_IMAGE = joined(2**24, False, LAST.to_bytes(4, 'little'), bytes(4), LAST_INDEX)
 
 FULL = bytes(PAGE)
-
-README = (TOP / 'README.md').read_text()
 
 
 def on(edges):
@@ -70,18 +68,7 @@ def full(shows, words, drive, files, text=b'0 1\n', made=()):
     return unbuilt(shows, text, f'drive {drive} not empty', words, files, 7, made)
 
 
-def in_readme():
-    """The first command of README.md, with what stands there as its text."""
-    command, text = (block for block in README.split('\n\n') if block.startswith('    '))
-    line, rest = text.replace('    ', '').rstrip().split('\n', 1)
-    build, levels = command.strip().replace('examples/', '').replace('./fg ', '').split(' && ')
-    small = (TOP / 'examples/small.txt').read_bytes()
-    calls = [Call(build, line + '\n', leaves={'small.drive': G1_DRIVE}), Call(levels, rest + '\n')]
-    return Row('the first command of README.md', calls, {'small.txt': small})
-
-
 BUILDS = [
-    in_readme(),
     built('levels on what was built', text_of_edges(G1_EDGES), '', G1_BUILT, one(G1_DRIVE),
           [('bfs --source 0', G1_TEXT)]),
     built('levels on what was built over three drives', text_of_edges(G1_EDGES), '--unit 2 --number 9', G1_BUILT,

@@ -1,4 +1,4 @@
-"""Images of graphs over drives, made by the formats in docs/ alone, for the transcripts of the program.
+"""Images of graphs over drives, made by docs/image-format.md alone, for the transcripts of the program.
 
 A graph is a list of edges (source, target) or (source, target, weight). The image is one list of bytes, and drives are
 made of it by dealing out its pages.

@@ -1,4 +1,4 @@
-"""Edge texts by the grammar in docs/ alone: what a text says, and the text of generated edges."""
+"""Edge texts by docs/formats.md alone: what a text says, and the text of generated edges."""
 import re
 
 EDGE = re.compile(rb'[ \t]*([0-9]+)[ \t]+([0-9]+)(?:[ \t]+([0-9]+))?[ \t]*')

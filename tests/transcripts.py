@@ -1,6 +1,7 @@
 """Rows: calls of the program on files in a folder of its own, what each prints, its status and the files it leaves."""
 import fcntl
 import pathlib
+import re
 import shlex
 import subprocess
 import tempfile
@@ -9,6 +10,7 @@ import time
 from dataclasses import dataclass, field
 
 TOP = pathlib.Path(__file__).resolve().parent.parent
+FG = str(TOP / 'fg')
 
 
 @dataclass
@@ -23,6 +25,8 @@ class Call:
     output: str = ''
     # the files that it makes or changes, as they are behind it
     leaves: dict = field(default_factory=dict)
+    # whether the words are a whole line for the shell, in which `./fg` is the program
+    shell: bool = False
 
 
 @dataclass
@@ -69,7 +73,9 @@ def feed(program, text, piece):
 
 def run(call, folder):
     """What the call prints, and its status."""
-    command = [str(TOP / 'fg'), *shlex.split(call.words)]
+    command = [FG, *shlex.split(call.words)]
+    if call.shell:
+        command = ['bash', '-c', re.sub(r'(?<!\S)\./fg(?!\S)', shlex.quote(FG), call.words)]
     if call.output:
         with open(call.output, 'wb') as out:
             return '', subprocess.run(command, cwd=folder, input=call.input, stdout=out).returncode
@@ -83,6 +89,11 @@ def run(call, folder):
     return done.stdout.decode(), done.returncode
 
 
+def files_in(folder):
+    """The files below a folder, by their names from there."""
+    return {str(path.relative_to(folder)): path.read_bytes() for path in folder.rglob('*') if path.is_file()}
+
+
 def faults_of(call, folder, files):
     """What is wrong with the call, which should leave these files, a line each."""
     text, status = run(call, folder)
@@ -90,7 +101,7 @@ def faults_of(call, folder, files):
         yield f'printed {text[:400]!r}, not {call.text[:400]!r}'
     if status != call.status:
         yield f'ended with {status}, not {call.status}'
-    if {path.name: path.read_bytes() for path in folder.iterdir()} != files:
+    if files_in(folder) != files:
         yield 'left its files otherwise'
 
 
@@ -100,6 +111,7 @@ def first_faults(row):
     with tempfile.TemporaryDirectory() as name:
         folder = pathlib.Path(name)
         for file, content in files.items():
+            (folder / file).parent.mkdir(exist_ok=True)
             (folder / file).write_bytes(content)
         for call in row.calls:
             files |= call.leaves
