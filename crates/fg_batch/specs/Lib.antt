@@ -3,5 +3,4 @@ pub mod Mails
 pub mod Bits
 pub mod Lanes
 pub mod Inbox
-pub mod Sum
 pub mod Outbox

@@ -1,66 +1,13 @@
-//! What comes to a part, with a program whose sums stop.
+//! What comes to a part, with ranks, whose sums stop.
 
 ghost use Rattle.std.specs.Prelude.{◌≡◌, ◌∷◌, [], IfOk};
 
 use crate::*;
-use fg_base::{Dir, Entry, Memory, Need, Tally, VState, Value};
-use fg_model::Program;
+use fg_base::{Memory, VState};
 use fg_part::PartMap;
+use fg_rank::Rank;
 use std::alloc::Global;
 use std::test::Fail;
-
-/// A program that adds what comes to a vertex to its number `b`. The sum stops at 2^64 - 1.
-struct Sum;
-
-#[tactic(auto, unfolding(crate::specs::Sum::sum_of_mail))]
-impl Program for Sum {
-    ghost use Rattle.fg_batch.specs.Sum.{sum_is_lawful, sum_of_mail};
-
-    ghost rules = { λ _. sum_of_mail };
-
-    ghost lawful = { λ _. sum_is_lawful };
-
-    fn need(&self) -> Need {
-        Need::Out
-    }
-
-    fn init(&self, _v: u32, _outs: u32, _ins: u32) -> VState {
-        VState { a: 0, b: 0, c: 0 }
-    }
-
-    fn begin<T: Tally>(&self, _phase: u64, _v: u32, s: VState, tally: &mut T) -> (VState, u64) {
-        tally.run_one();
-        (s, 0)
-    }
-
-    fn edge<T: Tally>(&self, carry: u64, _dir: Dir, _entry: Entry, tally: &mut T) -> u64 {
-        tally.entry_one();
-        carry
-    }
-
-    fn receive(&self, s: VState, m: u64) -> VState {
-        VState {
-            b: s.b.saturating_add(m),
-            ..s
-        }
-    }
-
-    fn combine(&self, x: u64, y: u64) -> u64 {
-        x.saturating_add(y)
-    }
-
-    fn wake(&self, _phase: u64, _s: VState) -> bool {
-        true
-    }
-
-    fn bid(&self, _s: VState) -> Option<u64> {
-        None
-    }
-
-    fn show(&self, s: VState) -> Value {
-        Value::One(s.b)
-    }
-}
 
 /// A batch of block 0 for part 1 with one message to vertex 3.
 fn batch_of(alloc: Global, message: u64) -> Result<Batch, Memory>
@@ -82,7 +29,8 @@ fn a_sum_of_two_batches_stops(rt: HostRuntime) -> Result<(), Fail> {
     let alloc = rt.alloc();
     let map = PartMap::new(4, 0, 2);
     let mut states = vec![in alloc; VState { a: 0, b: 5, c: 0 }; 4]?;
-    let mut inbox = Inbox::new(alloc, &Sum, map, 1)?;
+    let program = Rank { cut: 1 };
+    let mut inbox = Inbox::new(alloc, &program, map, 1)?;
     inbox.deliver(batch_of(alloc, u64::MAX)?);
     inbox.deliver(batch_of(alloc, 1)?);
     inbox.fold_into(&mut states);

@@ -4,6 +4,7 @@ use Rattle.std.specs.Prelude.{◌≡◌, ℕ, ◌/◌, ◌==◌, Option, Result,
 use Rattle.std.specs.List.{filter, flat_map, range_with_len}
 use Rattle.fg_base.specs.declared.refusal.Refusal.{Refusal}
 use Rattle.fg_base.specs.Told.{grown}
+use Rattle.fg_base.specs.declared.limits.TheConstants.{PAGE_BYTES}
 use Rattle.fg_build.specs.Layouts.{Plan, label_for}
 use Rattle.fg_image.specs.Made.{image_bytes}
 use Rattle.fg_model.specs.Edges.{EdgeList}
@@ -32,7 +33,7 @@ page_appends drives unit image count = map (λ page. append_of (drive_of page dr
 -- the labels, and then the pages
 abbrev pub image_appends : Plan → List ℕ → List PageAppend
 image_appends plan image =
-    label_appends plan.drives (label_for plan (length image / 4096) 0) ++ page_appends plan.drives plan.unit image (length image / 4096)
+    label_appends plan.drives (label_for plan (length image / PAGE_BYTES) 0) ++ page_appends plan.drives plan.unit image (length image / PAGE_BYTES)
 
 -- the appends by which the image of these edges is built
 unfoldable pub build_appends : Plan → EdgeList → List PageAppend

@@ -2,6 +2,7 @@
 use Rattle.std.specs.Prelude.{◌≡◌, ◌≤◌, ◌<◌, ℕ, zero, suc, ◌/◌, Option, Result, Ok, Err, List, [], ◌∷◌, length, take}
 use Rattle.fg_base.specs.declared.refusal.Refusal.{Refusal}
 use Rattle.fg_base.specs.Told.{grown, GrewByFirst}
+use Rattle.fg_base.specs.declared.limits.TheConstants.{PAGE_BYTES}
 use Rattle.fg_build.specs.Appending.{RoomyKeptFor}
 use Rattle.fg_build.specs.Layouts.{Plan, drive_bytes}
 use Rattle.fg_model.specs.Edges.{EdgeList}
@@ -10,13 +11,13 @@ use Rattle.fg_outside.specs.Drives.{EachDriveFrom, EachSame, NoneRose, RoseFirst
 -- the drive of this number is the first that holds a whole page
 abbrev pub IsFirstFull : ℕ → List (List ℕ) → Type 0
 IsFirstFull drive [] = ⊥
-IsFirstFull zero (held ∷ helds) = 4096 ≤ length held
-IsFirstFull (suc drive) (held ∷ helds) = (length held < 4096) × IsFirstFull drive helds
+IsFirstFull zero (held ∷ helds) = PAGE_BYTES ≤ length held
+IsFirstFull (suc drive) (held ∷ helds) = (length held < PAGE_BYTES) × IsFirstFull drive helds
 
 -- no drive holds a whole page
 abbrev pub AreEmpty : List (List ℕ) → Type 0
 AreEmpty [] = Unit {0}
-AreEmpty (held ∷ helds) = (length held < 4096) × AreEmpty helds
+AreEmpty (held ∷ helds) = (length held < PAGE_BYTES) × AreEmpty helds
 
 -- what an answer says of what the drives hold; a drive that failed was looked at once those before it were found empty
 abbrev pub SaysEmpty : Result Unit Refusal → List (List ℕ) → Type 0
@@ -35,7 +36,7 @@ EmptyCounts faults olds news (Err refusal) = ⊥
 
 -- no drive failed that tells room for its part of the image of these edges, whatever the others did
 abbrev pub RoomyKeptForImage : {D : Type 0} → (D → Option ℕ) → (D → ℕ) → Plan → EdgeList → List D → List D → Type 0
-RoomyKeptForImage room faults plan edges olds news = RoomyKeptFor room faults (λ drive. length (drive_bytes plan edges drive) / 4096) olds news
+RoomyKeptForImage room faults plan edges olds news = RoomyKeptFor room faults (λ drive. length (drive_bytes plan edges drive) / PAGE_BYTES) olds news
 
 -- each drive holds its part of the image of these edges behind what it held, or a first of it
 abbrev pub HoldImage : {D : Type 0} → (D → Option (List ℕ)) → Plan → EdgeList → List D → List D → Type 0

@@ -1,5 +1,6 @@
 -- What is found of the labels of drives, one by one and of all.
 use Rattle.std.specs.Prelude.{◌≡◌, ◌≢◌, ◌<◌, ◌≤◌, ◌/◌, ℕ, Option, None, Some, Result, Ok, Err, List, [], length, slice_index_or}
+use Rattle.fg_base.specs.declared.limits.TheConstants.{MAX_IMAGE_PAGES, PAGE_BYTES}
 use Rattle.fg_base.specs.declared.refusal.Refusal.{Refusal}
 use Rattle.fg_base.specs.declared.refusal.Refusal.TheVariants.{NoLabel}
 use Rattle.fg_build.specs.Calls.{SaysOf}
@@ -17,7 +18,7 @@ pub record LabelFits (label : Label) : Type 0 where
   pub some_unit : 1 ≤ label.unit
   pub small_unit : label.unit ≤ 256
   pub some_pages : 2 ≤ label.pages
-  pub few_pages : label.pages ≤ 524288
+  pub few_pages : label.pages ≤ MAX_IMAGE_PAGES
 
 -- how the image of this label is striped, its sections not placed
 abbrev pub striping_of : Label → Layout
@@ -25,7 +26,7 @@ striping_of label = record { drives = label.drives; unit = label.unit; pages = l
 
 -- a drive that holds these bytes has this label and so many pages, or no label
 abbrev pub IsLabelled : ℕ → List ℕ → Result Labelled Refusal → Type 0
-IsLabelled drive held (Ok found) = (label_on held ≡ Some found.label) × (found.pages ≡ length held / 4096)
+IsLabelled drive held (Ok found) = (label_on held ≡ Some found.label) × (found.pages ≡ length held / PAGE_BYTES)
 IsLabelled drive held (Err refusal) = SaysOf refusal ((label_on held ≡ None) × (refusal ≡ NoLabel drive))
 
 -- nothing refuses a drive of so many that holds these bytes, where drive 0 has the first label, or this does

@@ -1,5 +1,6 @@
 -- The labels of drives that are to hold one image, and the first that refuses them.
 use Rattle.std.specs.Prelude.{ℕ, Bool, Option, None, Some, List, [], ◌∷◌, ◌+◌, ◌/◌, ◌==◌, ◌&&◌, nat_le, length, if◌then◌else◌}
+use Rattle.fg_base.specs.declared.limits.TheConstants.{PAGE_BYTES}
 use Rattle.fg_base.specs.declared.refusal.Refusal.{Refusal}
 use Rattle.fg_base.specs.declared.refusal.Refusal.TheVariants.{LabelDiffers, NoLabel, ShortDrive, WrongDrive}
 use Rattle.fg_stripe.specs.declared.label.Label.{Label}
@@ -9,7 +10,7 @@ use Rattle.fg_stripe.specs.Striping.{pages_on}
 
 -- the label of a drive that holds these bytes: its page 0, where it has one and that is a label
 abbrev pub label_on : List ℕ → Option Label
-label_on held = if nat_le 4096 (length held) then label_of (page_of held 0) else None
+label_on held = if nat_le PAGE_BYTES (length held) then label_of (page_of held 0) else None
 
 -- the label is of an image on so many drives, the image of this first label
 abbrev pub agrees_with : ℕ → Label → Label → Bool
@@ -34,7 +35,7 @@ refusal_by drives first drive have label =
 -- the same of a drive that holds these bytes, where it has a label or none
 abbrev pub label_refusal : ℕ → Label → ℕ → List ℕ → Option Label → Option Refusal
 label_refusal drives first drive held None = Some (NoLabel drive)
-label_refusal drives first drive held (Some label) = refusal_by drives first drive (length held / 4096) label
+label_refusal drives first drive held (Some label) = refusal_by drives first drive (length held / PAGE_BYTES) label
 
 -- the first of two refusals
 abbrev pub or_else : Option Refusal → Option Refusal → Option Refusal

@@ -1,6 +1,7 @@
 -- What drives hold when an image was built over them.
 use Rattle.std.specs.Prelude.{ℕ, ◌+◌, ◌/◌, List, ◌++◌, length, map}
 use Rattle.std.specs.List.{flat_map, range_with_len}
+use Rattle.fg_base.specs.declared.limits.TheConstants.{PAGE_BYTES}
 use Rattle.fg_image.specs.Made.{image_bytes}
 use Rattle.fg_model.specs.Edges.{EdgeList}
 use Rattle.fg_stripe.specs.declared.label.Label.{Label}
@@ -28,12 +29,12 @@ label_for plan pages drive = record { drive = drive; drives = plan.drives; unit 
 -- what a drive holds of an image: its label, and its pages in order
 abbrev pub layout_of : Plan → List ℕ → ℕ → List ℕ
 layout_of plan image drive =
-    label_bytes (label_for plan (length image / 4096) drive)
-    ++ flat_map (page_of image) (pages_on drive plan.drives plan.unit (length image / 4096))
+    label_bytes (label_for plan (length image / PAGE_BYTES) drive)
+    ++ flat_map (page_of image) (pages_on drive plan.drives plan.unit (length image / PAGE_BYTES))
 
 -- how many pages they are
 abbrev pub layout_pages : Plan → List ℕ → ℕ → ℕ
-layout_pages plan image drive = 1 + length (pages_on drive plan.drives plan.unit (length image / 4096))
+layout_pages plan image drive = 1 + length (pages_on drive plan.drives plan.unit (length image / PAGE_BYTES))
 
 -- both by an image's label
 abbrev pub layout_by : Label → List ℕ → ℕ → List ℕ

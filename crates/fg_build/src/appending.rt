@@ -55,7 +55,7 @@ fn append_pages<D: Drive>(drives: &mut [D], label: &Label, image: &[u8]) -> Resu
     requires drives { length drives.old ≡ label.now.drives }
     requires some_drives { 0 < label.now.drives }
     requires some_unit { 0 < label.now.unit }
-    requires pages { label.now.pages ≡ length image.now / 4096 }
+    requires pages { label.now.pages ≡ length image.now / PAGE_BYTES }
     requires few { label.now.pages ≤ MAX_IMAGE_PAGES }
 
     ensures appends { Appends D.held D.room D.faults (pages_dealt label.now image.now) (pages_dealt_count label.now) drives.old drives.new result }
@@ -84,7 +84,7 @@ pub(crate) fn append_image<D: Drive>(
     requires drives { length drives.old ≡ label.now.drives }
     requires some_drives { 0 < label.now.drives }
     requires some_unit { 0 < label.now.unit }
-    requires pages { label.now.pages ≡ length image.now / 4096 }
+    requires pages { label.now.pages ≡ length image.now / PAGE_BYTES }
     requires few { label.now.pages ≤ MAX_IMAGE_PAGES }
 
     ensures appends { Appends D.held D.room D.faults (layout_by label.now image.now) (layout_pages_by label.now image.now) drives.old drives.new result }

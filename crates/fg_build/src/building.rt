@@ -1,7 +1,7 @@
 //! Building an image over empty drives.
 
 ghost use Rattle.std.specs.Prelude.{◌≡◌, ◌<◌, ◌≤◌, ◌/◌, IfOk, IfSome, IsOk, OnOk, length};
-ghost use Rattle.fg_base.specs.declared.limits.TheConstants.{MAX_DRIVES, MAX_UNIT};
+ghost use Rattle.fg_base.specs.declared.limits.TheConstants.{MAX_DRIVES, MAX_UNIT, PAGE_BYTES};
 ghost use Rattle.fg_build.specs.Answers.{ReadCounts};
 ghost use Rattle.fg_build.specs.Appends.{BuildsInOrder, build_appends};
 ghost use Rattle.fg_build.specs.Building.{Builds, EmptyCounts, RoomyKeptForImage, SaysEmpty};
@@ -49,7 +49,7 @@ pub fn build<D: Drive>(
     requires few { length drives.old.items ≤ MAX_DRIVES }
     requires some_unit { 1 ≤ unit }
     requires small_unit { unit ≤ MAX_UNIT }
-    ensures pages { IfOk result (λ pages. pages ≡ length (image_bytes edges.now) / 4096) }
+    ensures pages { IfOk result (λ pages. pages ≡ length (image_bytes edges.now) / PAGE_BYTES) }
     ensures holds { Builds D.held (plan_of (length drives.old.items) unit number) edges.now drives.old.items drives.new.items result }
     ensures in_order { BuildsInOrder D.held (build_appends (plan_of (length drives.old.items) unit number) edges.now) drives.old.items drives.new.items result }
     ensures counts { ReadCounts D.faults drives.old.items drives.new.items result }

@@ -13,6 +13,7 @@ mod opened;
 mod opening;
 mod pages;
 mod reading;
+pub mod sample;
 #[cfg(test)]
 mod tests;
 

@@ -16,7 +16,7 @@ use fg_stripe::Layout;
 use fg_stripe::striping::place;
 use std::alloc::Global;
 
-/// Reads a page of the image into `into`, of 4096 bytes.
+/// Reads a page of the image into `into`, of `PAGE_BYTES` bytes.
 pub(crate) fn read_image_page<D: Drive>(
     drives: &mut [D],
     layout: &Layout,

@@ -1,6 +1,7 @@
 //! A whole image in memory.
 
 ghost use Rattle.std.specs.Prelude.{◌≡◌, ◌*◌, IfOk, IfSome, OnOk, length};
+ghost use Rattle.fg_base.specs.declared.limits.TheConstants.{PAGE_BYTES};
 ghost use Rattle.fg_build.specs.Answers.{HoldWhole, OpenedFits, ReadCounts};
 ghost use Rattle.fg_build.specs.Opening.{image_of};
 ghost use Rattle.fg_build.specs.OpeningReads.{whole_reads};
@@ -22,7 +23,7 @@ pub fn read_all<D: Drive>(
     requires fits { OpenedFits opened.now }
     requires told { HoldWhole D.told opened.now.layout drives.old.items }
     ensures image { IfOk result (λ image. IfSome (all_told D.held drives.old.items) (λ helds. image.items ≡ image_of opened.now helds)) }
-    ensures whole { IfOk result (λ image. length image.items ≡ opened.now.layout.pages * 4096) }
+    ensures whole { IfOk result (λ image. length image.items ≡ opened.now.layout.pages * PAGE_BYTES) }
     ensures counts { ReadCounts D.faults drives.old.items drives.new.items result }
     ensures reads { LogsGrewByFirst D.log (whole_reads opened.now.layout) drives.old.items drives.new.items }
     ensures all_read { OnOk result (LogsGrew D.log (whole_reads opened.now.layout) drives.old.items drives.new.items) }

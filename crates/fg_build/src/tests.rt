@@ -2,6 +2,7 @@
 
 ghost use Rattle.std.specs.Prelude.{◌≡◌, ◌<◌, IfOk, length, vec_len};
 
+use crate::sample::DIAMOND;
 use crate::{Opened, open, read_all};
 use fg_base::limits::{MAX_DRIVES, PAGE_BYTES};
 use fg_base::{Dir, Refusal};
@@ -13,38 +14,6 @@ use std::test::Fail;
 
 /// Bytes of the image's four pages.
 const IMAGE_BYTES: usize = 16_384;
-
-/// The numbers of 4 bytes that aren't 0, each with its place in the image.
-const NUMBERS: &[(usize, u32)] = &[
-    // `FGIM`, `AGE`, version 1, 5 vertices, 4 pages
-    (0, 0x4d49_4746),
-    (4, 0x0045_4741),
-    (8, 1),
-    (16, 5),
-    (20, 4),
-    // 5 entries both ways in 20 bytes each, an index of 18 bytes, and the first pages
-    (24, 5),
-    (32, 5),
-    (40, 20),
-    (48, 20),
-    (56, 18),
-    (64, 1),
-    (68, 2),
-    (72, 3),
-    // the out-entries 1, 2, 3, 3, 4 and the in-entries 0, 0, 1, 2, 3
-    (4096, 1),
-    (4100, 2),
-    (4104, 3),
-    (4108, 3),
-    (4112, 4),
-    (8200, 1),
-    (8204, 2),
-    (8208, 3),
-    // the degrees 2, 1, 1, 1, 0 and 0, 1, 1, 2, 1
-    (12_288, 0x0101_0102),
-    (12_296, 0x0101_0000),
-    (12_300, 0x0000_0102),
-];
 
 /// What is done to the drives before they are opened.
 #[derive(Clone, Copy)]
@@ -102,7 +71,7 @@ fn put(bytes: &mut [u8], place: usize, number: u32) {
 }
 
 fn put_all(bytes: &mut [u8]) {
-    for (place, number) in NUMBERS {
+    for (place, number) in DIAMOND {
         put(bytes, *place, *number);
     }
 }

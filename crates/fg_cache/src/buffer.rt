@@ -3,6 +3,7 @@
 ghost use Rattle.std.specs.Prelude.{◌≡◌, ◌<◌, ◌≤◌, ◌+◌, ◌*◌, ℕ, [], ◌∷◌, length, OnOk, OnErr, IsSome, IsOk, IfSome};
 ghost use Rattle.fg_base.specs.Faults.{Counts};
 ghost use Rattle.fg_base.specs.Told.{grown, GrewByFirst};
+ghost use Rattle.fg_base.specs.declared.limits.TheConstants.{PAGE_BYTES};
 ghost use Rattle.fg_outside.specs.Log.{read_of};
 ghost use Rattle.fg_stripe.specs.Held.{page_of};
 
@@ -39,7 +40,7 @@ impl ReadBuffer {
     pub(crate) fn page(&self, k: u32) -> &[u8]
         requires { k < 32 }
         ensures page { result.now ≡ page_of self.now k }
-        ensures length { length result.now ≡ 4096 }
+        ensures length { length result.now ≡ PAGE_BYTES }
     {
         let at = k as usize * PAGE_BYTES;
         &self.bytes[at..at + PAGE_BYTES]

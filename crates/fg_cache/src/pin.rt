@@ -1,6 +1,7 @@
 //! A page that a pass has pinned.
 
 ghost use Rattle.std.specs.Prelude.{◌≡◌, length};
+ghost use Rattle.fg_base.specs.declared.limits.TheConstants.{PAGE_BYTES};
 ghost use Rattle.fg_cell.specs.Pages.{IsPageOf};
 
 use crate::pass::Pass;
@@ -37,7 +38,7 @@ impl<'a> Pin<'a> {
     /// The page's bytes, for as long as the pin lives.
     pub fn bytes(&self) -> &[u8]
         ensures page { IsPageOf self.now.image self.now.page result.now }
-        ensures length { length result.now ≡ 4096 }
+        ensures length { length result.now ≡ PAGE_BYTES }
     {
         self.shown.page().bytes()
     }

@@ -1,6 +1,7 @@
 //! How a drive's loads are served.
 
 ghost use Rattle.std.specs.Prelude.{◌≡◌, ◌<◌, ◌≤◌, All, IsSome, IfOk, IfErr, OnErr, length, pos, ◌+ℤ◌, ◌-ℤ◌, slice_index_or};
+ghost use Rattle.fg_base.specs.declared.limits.TheConstants.{PAGE_BYTES};
 ghost use Rattle.fg_queue.specs.LoadRun.{IsRun};
 ghost use Rattle.fg_cache.specs.Cache.{ServedTells, IsServed};
 ghost use Rattle.fg_cache.specs.Load.{IsLoad};
@@ -165,7 +166,7 @@ impl<D: Drive> Cache<D> {
 // Puts a page into a frame by way of the spare buffer, in whose place the frame's old page comes.
 fn swap_in<R: Wait>(rt: &R, frame: &Frame, spare: &mut Option<PageBuf>, page: u32, bytes: &[u8])
     requires page { IsPageOf frame.now page bytes.now }
-    requires length { length bytes.now ≡ 4096 }
+    requires length { length bytes.now ≡ PAGE_BYTES }
     requires spare { IsSpare frame.now spare.old }
     ensures { IsSpare frame.now spare.new }
 {

@@ -7,7 +7,7 @@ use fg_base::limits::{NO_PAGE, PAGE_BYTES};
 use std::alloc::Global;
 use std::marker::Model;
 
-/// A page number, or `NO_PAGE`, and 4096 bytes on the heap. A move leaves the bytes where they are.
+/// A page number, or `NO_PAGE`, and `PAGE_BYTES` on the heap. A move leaves the bytes where they are.
 #[derive(Drop)]
 pub struct PageBuf {
     number: u32,
@@ -16,20 +16,21 @@ pub struct PageBuf {
 
 impl Model for PageBuf {
     ghost use Rattle.std.specs.Prelude.{◌≡◌, length};
+    ghost use Rattle.fg_base.specs.declared.limits.TheConstants.{PAGE_BYTES};
     ghost use Rattle.fg_cell.specs.Pages.{Page};
 
     ghost Value = { Page };
 
     ghost view = { λ b. record { number = b.number; bytes = b.bytes.items } };
 
-    ghost invariant = { λ b. length b.bytes.items ≡ 4096 };
+    ghost invariant = { λ b. length b.bytes.items ≡ PAGE_BYTES };
 }
 
 impl PageBuf {
     /// A buffer with no page in it, and zeros.
     pub fn new(alloc: Global) -> Result<PageBuf, Memory>
         ensures number { IfOk result (λ b. b.number ≡ NO_PAGE) }
-        ensures bytes { IfOk result (λ b. b.bytes ≡ replicate 4096 0) }
+        ensures bytes { IfOk result (λ b. b.bytes ≡ replicate PAGE_BYTES 0) }
     {
         let bytes = vec![in alloc; 0u8; PAGE_BYTES]?;
         Ok(PageBuf {
@@ -46,14 +47,14 @@ impl PageBuf {
 
     pub fn bytes(&self) -> &[u8]
         ensures value { result.now ≡ self.now.bytes }
-        ensures length { length result.now ≡ 4096 }
+        ensures length { length result.now ≡ PAGE_BYTES }
     {
         self.bytes.as_slice()
     }
 
     /// Puts a page into the buffer.
     pub fn set(&mut self, page: u32, bytes: &[u8])
-        requires { length bytes.now ≡ 4096 }
+        requires { length bytes.now ≡ PAGE_BYTES }
         ensures { self.new ≡ record { number = page; bytes = bytes.now } }
     {
         self.number = page;

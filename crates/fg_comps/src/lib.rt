@@ -5,6 +5,8 @@
 #![tactic(auto)]
 
 mod cores;
+#[cfg(test)]
+mod tests;
 mod wcc;
 
 pub use cores::Core;

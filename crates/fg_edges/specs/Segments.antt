@@ -1,5 +1,6 @@
 -- A list that is gone through page by page.
 use Rattle.std.specs.Prelude.{◌≡◌, ℕ, ◌+◌, ◌-◌, ◌*◌, ◌%◌, ◌^◌, ◌<◌, ◌≤◌, ◌⊎◌, Bool, Option, Some, None, slice_index}
+use Rattle.fg_base.specs.declared.limits.TheConstants.{PAGE_BYTES}
 use Rattle.fg_base.specs.declared.plain.Dir.{Dir}
 use Rattle.fg_edges.specs.declared.segment.Segment.{Segment}
 use Rattle.fg_edges.specs.Segment.{IsSegment, count_of}
@@ -47,8 +48,8 @@ pub record IsNext (rest : ListRest) (s : Segment) : Type 0 where
   pub some : 0 < count_of rest.weighted s
   pub there : count_of rest.weighted s ≤ rest.count
   pub at_its_place : s.place ≡ rest.place
-  pub on_its_page : s.page * 4096 + s.from ≡ rest.at
-  pub all_of_the_page : (s.to ≡ 4096) ⊎ (count_of rest.weighted s ≡ rest.count)
+  pub on_its_page : s.page * PAGE_BYTES + s.from ≡ rest.at
+  pub all_of_the_page : (s.to ≡ PAGE_BYTES) ⊎ (count_of rest.weighted s ≡ rest.count)
 
 -- the next segment is given, and then those behind it; none where nothing is left
 abbrev pub Gives : ListRest → Option Segment → ListRest → Type 0

@@ -2,4 +2,3 @@ pub mod Arrivals
 pub mod Deliver
 pub mod Gather
 pub mod Marks
-pub mod Pass

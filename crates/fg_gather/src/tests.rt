@@ -4,73 +4,19 @@ ghost use Rattle.std.specs.Prelude.{◌≡◌, ◌<◌, All, IfOk};
 ghost use Rattle.fg_batch.specs.Outbox.{IsForItsPart};
 
 use crate::*;
-use fg_base::{Count, Dir, Entry, Items, Memory, Need, Tally, VState, Value};
+use fg_base::{Count, Entry, Items, Memory, VState};
 use fg_batch::{Batch, Outbox};
+use fg_comps::Wcc;
 use fg_model::{Graph, Program, VecWatch, plain_run};
 use fg_part::PartMap;
+use fg_rank::Rank;
+use fg_walks::Bfs;
 use std::alloc::Global;
 use std::test::Fail;
 use std::thread::Threads;
 
-/// A vertex whose number `b` isn't 0 keeps it as `a`, and sends it along its out-entries; what comes is added up in `b`.
-struct Pass;
-
-#[tactic(auto, unfolding(crate::specs::Pass::passing))]
-impl Program for Pass {
-    ghost use Rattle.fg_gather.specs.Pass.{passing, passing_is_lawful};
-
-    ghost rules = { λ _. passing };
-
-    ghost lawful = { λ _. passing_is_lawful };
-
-    fn need(&self) -> Need {
-        Need::Out
-    }
-
-    fn init(&self, v: u32, _outs: u32, _ins: u32) -> VState {
-        VState { a: 0, b: 1, c: 0 }
-    }
-
-    fn begin<T: Tally>(&self, _phase: u64, _v: u32, s: VState, tally: &mut T) -> (VState, u64) {
-        tally.run_one();
-        (
-            VState {
-                a: s.b,
-                b: 0,
-                c: s.c,
-            },
-            s.b,
-        )
-    }
-
-    fn edge<T: Tally>(&self, carry: u64, _dir: Dir, _entry: Entry, tally: &mut T) -> u64 {
-        tally.entry_one();
-        carry
-    }
-
-    fn receive(&self, s: VState, m: u64) -> VState {
-        VState {
-            b: s.b.saturating_add(m),
-            ..s
-        }
-    }
-
-    fn combine(&self, x: u64, y: u64) -> u64 {
-        x.saturating_add(y)
-    }
-
-    fn wake(&self, _phase: u64, s: VState) -> bool {
-        0 < s.b
-    }
-
-    fn bid(&self, _s: VState) -> Option<u64> {
-        None
-    }
-
-    fn show(&self, s: VState) -> Value {
-        Value::One(s.b)
-    }
-}
+/// A vertex passes on whatever came.
+const RANK: Rank = Rank { cut: 1 };
 
 /// Where the one out-entry of each of five vertices leads.
 const TARGETS: [u32; 5] = [2, 4, 4, 0, 4];
@@ -93,7 +39,7 @@ fn plain_states(alloc: Global) -> Result<Vec<VState>, Fail> {
     let mut states = Vec::new(alloc);
     if graph.is_within_limits() {
         let mut tally = Count::new();
-        if let Ok(end) = plain_run(alloc, &graph, &Pass, 1, &mut watch, &mut tally) {
+        if let Ok(end) = plain_run(alloc, &graph, &RANK, 1, &mut watch, &mut tally) {
             states.extend_from_slice(end.states.as_slice())?;
         }
     }
@@ -101,47 +47,53 @@ fn plain_states(alloc: Global) -> Result<Vec<VState>, Fail> {
 }
 
 /// What vertices 0 and 1, which are block 0, send.
-fn sent_first(alloc: Global, map: PartMap) -> Result<Vec<Batch>, Memory>
+fn sent_first(alloc: Global, map: PartMap, messages: [u64; 2]) -> Result<Vec<Batch>, Memory>
     requires { map.n ≡ 5 }
     ensures { IfOk result (λ batches. All (IsForItsPart map) batches.items) }
 {
     let mut outbox = Outbox::new(alloc, map)?;
     outbox.reserve(2)?;
-    outbox.send(2, 1);
-    outbox.send(4, 1);
+    let [from_0, from_1] = messages;
+    outbox.send(2, from_0);
+    outbox.send(4, from_1);
     outbox.into_batches(alloc, 0)
 }
 
 /// What vertices 2, 3 and 4 send.
-fn sent_then(alloc: Global, map: PartMap) -> Result<Vec<Batch>, Memory>
+fn sent_then(alloc: Global, map: PartMap, messages: [u64; 3]) -> Result<Vec<Batch>, Memory>
     requires { map.n ≡ 5 }
     ensures { IfOk result (λ batches. All (IsForItsPart map) batches.items) }
 {
     let mut outbox = Outbox::new(alloc, map)?;
     outbox.reserve(3)?;
-    outbox.send(4, 1);
-    outbox.send(0, 1);
-    outbox.send(4, 1);
+    let [from_2, from_3, from_4] = messages;
+    outbox.send(4, from_2);
+    outbox.send(0, from_3);
+    outbox.send(4, from_4);
     outbox.into_batches(alloc, 1)
 }
 
-/// The states after the same iteration by two waves, in so many threads; whether a vertex is active then; and whether some inbox
-/// still has something once they are emptied.
-fn iterated<R: Threads + Sync>(
+/// Each of the five vertices has this state, and sends its message in one of two waves: the states after that in so many threads;
+/// whether a vertex is active then; and whether some inbox still has something once they are emptied.
+fn iterated<P: Program + Sync, R: Threads + Sync>(
     rt: &R,
     alloc: Global,
+    program: &P,
+    state: VState,
+    messages: [u64; 5],
     threads: usize,
 ) -> Result<(Vec<VState>, bool, bool), Memory>
     requires { 0 < threads }
 {
     let map = PartMap::new(5, 1, 2);
-    let mut states = vec![in alloc; VState { a: 0, b: 1, c: 0 }; 5]?;
+    let mut states = vec![in alloc; state; 5]?;
     let mut marks = vec![in alloc; false; 3]?;
-    let mut inboxes = Inboxes::new(alloc, &Pass, map)?;
-    mark_all(rt, &Pass, map, 0, &states, threads, &mut marks);
-    let first = [sent_first(alloc, map)?];
+    let mut inboxes = Inboxes::new(alloc, program, map)?;
+    mark_all(rt, program, map, 0, &states, threads, &mut marks);
+    let [from_0, from_1, from_2, from_3, from_4] = messages;
+    let first = [sent_first(alloc, map, [from_0, from_1])?];
     inboxes.deliver(rt, &first, threads);
-    let then = [sent_then(alloc, map)?];
+    let then = [sent_then(alloc, map, [from_2, from_3, from_4])?];
     inboxes.deliver(rt, &then, threads);
     inboxes.gather(rt, 0, &marks, threads, &mut states);
     mark_again(rt, &inboxes, 0, &states, threads, &mut marks);
@@ -155,10 +107,36 @@ fn two_waves_are_the_plain_iteration(rt: HostRuntime) -> Result<(), Fail> {
     let alloc = rt.alloc();
     let plain = plain_states(alloc)?;
     assert_eq!(rt; plain.len(), 5);
+    // 15 hundredths of 2^20, of which 85 hundredths are sent along the one out-entry
+    let opening = VState {
+        a: 0,
+        b: 157_286,
+        c: 1,
+    };
     for threads in [1, 3] {
-        let (states, active, left) = iterated(&rt, alloc, threads)?;
+        let (states, active, left) = iterated(&rt, alloc, &RANK, opening, [133_693; 5], threads)?;
         assert!(rt; states == plain && active && !left);
-        assert_eq!(rt; (states[4].a, states[4].b, states[1].b), (1, 3, 0));
+        assert_eq!(rt;
+            (states[4].a, states[4].b, states[1].b),
+            (157_286, 401_079, 0)
+        );
+    }
+    Ok(())
+}
+
+#[test]
+fn the_least_of_three_messages(rt: HostRuntime) -> Result<(), Fail> {
+    let alloc = rt.alloc();
+    let resting = VState { a: 7, b: 7, c: 0 };
+    let levels = iterated(&rt, alloc, &Bfs { source: 0 }, resting, [9, 5, 2, 7, 6], 1)?;
+    let components = iterated(&rt, alloc, &Wcc, resting, [7, 6, 5, 8, 3], 2)?;
+    // vertices 1, 2 and 4 lead to vertex 4, and what comes to 0 and 2 is no less than what they have
+    for ((states, active, left), least) in [levels, components].iter().zip([2, 3]) {
+        assert!(rt; *active && !*left);
+        assert_eq!(rt; states.len(), 5);
+        for (state, number) in states.iter().zip([7, 7, 7, 7, least]) {
+            assert_eq!(rt; (state.a, state.b), (number, 7));
+        }
     }
     Ok(())
 }

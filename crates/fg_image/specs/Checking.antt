@@ -3,6 +3,7 @@ use Rattle.std.specs.Prelude.{◌≡◌, ◌<◌, ◌⊎◌, ℕ, Option, Some, 
 use Rattle.std.specs.Option.{option_or}
 use Rattle.std.specs.List.{flat_map, range_with_len}
 use Rattle.std.specs.List.Sorted.{IsPermutation}
+use Rattle.fg_base.specs.declared.limits.TheConstants.{PAGE_BYTES, MAX_IMAGE_PAGES}
 use Rattle.fg_base.specs.declared.plain.BadEdge.{BadEdge}
 use Rattle.fg_base.specs.declared.plain.Need.{Need}
 use Rattle.fg_base.specs.declared.refusal.Refusal.{Refusal}
@@ -33,12 +34,12 @@ sections_in header layout =
 
 -- the bytes behind a section's end, up to that of its last page
 abbrev pub padding_of : List ℕ → Section → List ℕ
-padding_of image section = take (pages_for section.bytes * 4096 - section.bytes) (drop (section.first * 4096 + section.bytes) image)
+padding_of image section = take (pages_for section.bytes * PAGE_BYTES - section.bytes) (drop (section.first * PAGE_BYTES + section.bytes) image)
 
 -- the page with the first of these bytes, where they aren't all zeros
 abbrev pub bad_page : List ℕ → Section → Option ℕ
 bad_page image section =
-    if is_blank (padding_of image section) then None else Some (section.first + section.bytes / 4096)
+    if is_blank (padding_of image section) then None else Some (section.first + section.bytes / PAGE_BYTES)
 
 -- the first such page
 abbrev pub bad_page_in : List ℕ → List Section → Option ℕ
@@ -48,8 +49,8 @@ bad_page_in image (section ∷ sections) = option_or (bad_page image section) (b
 -- a section whose pages are in the image
 pub record IsSectionOf (image : List ℕ) (section : Section) : Type 0 where
   pub few : section.bytes ≤ 2 ^ 40
-  pub few_pages : section.first + pages_for section.bytes ≤ 2 ^ 19
-  pub within : (section.first + pages_for section.bytes) * 4096 ≤ length image
+  pub few_pages : section.first + pages_for section.bytes ≤ MAX_IMAGE_PAGES
+  pub within : (section.first + pages_for section.bytes) * PAGE_BYTES ≤ length image
 
 -- the in-list of v holds, in some order and with the weights, just the turned out-entries that lead to v
 abbrev pub IsMirrored : Graph → ℕ → Type 0

@@ -1,5 +1,6 @@
 -- What the header page of an image says: the header and where the sections stand.
 use Rattle.std.specs.Prelude.{◌≡◌, ◌≤◌, ℕ, Result, Ok, Err, List, ◌+◌, ◌*◌, ◌^◌}
+use Rattle.fg_base.specs.declared.limits.TheConstants.{MAX_IMAGE_PAGES}
 use Rattle.fg_base.specs.declared.refusal.Refusal.{Refusal}
 use Rattle.fg_image.specs.declared.header.Header.{Header}
 use Rattle.fg_image.specs.Header.{header_at, pages_for, sections_of, size_of}
@@ -22,10 +23,10 @@ with_header pages (Ok header) = with_layout header (sections_of header pages)
 abbrev pub front_at : ℕ → List ℕ → Result Front Refusal
 front_at pages page = with_header pages (header_at page)
 
--- an accepted header of an image of at most 2^19 pages: its numbers are within the limits and agree with each other
+-- an accepted header of an image of at most `MAX_IMAGE_PAGES`: its numbers are within the limits and agree with each other
 pub record HeaderFits (header : Header) (layout : Layout) : Type 0 where
   pub few_vertices : header.n ≤ 2 ^ 24
-  pub few_pages : layout.pages ≤ 2 ^ 19
+  pub few_pages : layout.pages ≤ MAX_IMAGE_PAGES
   pub few_outs : header.out_entries ≤ 2 ^ 26
   pub few_ins : header.in_entries ≤ 2 ^ 26
   pub few_bytes : header.index_bytes ≤ 2 ^ 27

@@ -1,6 +1,7 @@
 -- The header page of an image: its numbers, which pages are headers, and where the sections stand by it.
-use Rattle.std.specs.Prelude.{ℕ, Bool, Result, Ok, Err, List, [], ◌∷◌, ◌+◌, ◌*◌, ◌/◌, ◌^◌, ◌==◌, ◌&&◌, nat_le, nat_eq, drop, if◌then◌else◌}
+use Rattle.std.specs.Prelude.{ℕ, Bool, Result, Ok, Err, List, [], ◌∷◌, ◌+◌, ◌*◌, ◌/◌, ◌-◌, ◌^◌, ◌==◌, ◌&&◌, nat_le, nat_eq, drop, if◌then◌else◌}
 use Rattle.std.specs.List.{starts_with}
+use Rattle.fg_base.specs.declared.limits.TheConstants.{PAGE_BYTES}
 use Rattle.fg_base.specs.declared.refusal.Refusal.{Refusal}
 use Rattle.fg_base.specs.declared.refusal.Refusal.TheVariants.{BadHeader, BadVersion, BadSections}
 use Rattle.fg_image.specs.declared.header.Header.{Header}
@@ -58,7 +59,7 @@ size_of header = entry_bytes (is_weighted header)
 
 -- the pages that so many bytes fill
 abbrev pub pages_for : ℕ → ℕ
-pages_for bytes = (bytes + 4095) / 4096
+pages_for bytes = (bytes + (PAGE_BYTES - 1)) / PAGE_BYTES
 
 -- the bytes are those of the entries, and the sections lie one behind the other from page 1 up to the last of so many pages
 abbrev pub has_sections : ℕ → Header → Bool

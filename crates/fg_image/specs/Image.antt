@@ -1,5 +1,6 @@
 -- An image as bytes: what it says, or the first thing that refuses it.
 use Rattle.std.specs.Prelude.{◌≡◌, ◌≤◌, ℕ, Bool, Result, Ok, Err, List, ◌+◌, ◌*◌, ◌/◌, ◌%◌, ◌^◌, length, take, drop, sum}
+use Rattle.fg_base.specs.declared.limits.TheConstants.{PAGE_BYTES, MAX_IMAGE_PAGES}
 use Rattle.fg_base.specs.declared.plain.Dir.{Dir}
 use Rattle.fg_base.specs.declared.refusal.Refusal.{Refusal}
 use Rattle.fg_base.specs.declared.refusal.Refusal.TheVariants.{BadIndex}
@@ -32,7 +33,7 @@ index_of header bytes = found_index (is_weighted header) (index_at header.n head
 
 -- the bytes of the index's section
 abbrev pub index_in : Header → List ℕ → List ℕ
-index_in header image = take header.index_bytes (drop (header.index_first * 4096) image)
+index_in header image = take header.index_bytes (drop (header.index_first * PAGE_BYTES) image)
 
 abbrev pub with_index : Front → Result ImageIndex Refusal → Result Parts Refusal
 with_index front (Err refusal) = Err refusal
@@ -48,13 +49,13 @@ parts_in pages image = with_front image (front_at pages (page_of image 0))
 
 -- the image says these parts
 abbrev pub AreParts : List ℕ → Parts → Type 0
-AreParts image parts = parts_in (length image / 4096) image ≡ Ok parts
+AreParts image parts = parts_in (length image / PAGE_BYTES) image ≡ Ok parts
 
--- bytes are an image: whole pages, from 2 to 2^19, whose header, sections and index are accepted
+-- bytes are an image: whole pages, from 2 to `MAX_IMAGE_PAGES`, whose header, sections and index are accepted
 pub record IsImage (image : List ℕ) (parts : Parts) : Type 0 where
-  pub whole : length image % 4096 ≡ 0
-  pub some_pages : 2 ≤ length image / 4096
-  pub few_pages : length image / 4096 ≤ 2 ^ 19
+  pub whole : length image % PAGE_BYTES ≡ 0
+  pub some_pages : 2 ≤ length image / PAGE_BYTES
+  pub few_pages : length image / PAGE_BYTES ≤ MAX_IMAGE_PAGES
   pub accepted : AreParts image parts
 
 -- the graph of an image with these parts
@@ -68,7 +69,7 @@ pub record IndexFits (layout : Layout) (index : ImageIndex) : Type 0 where
   pub same_vertices : length index.ins ≡ length index.outs
   pub few_outs : sum index.outs ≤ 2 ^ 26
   pub few_ins : sum index.ins ≤ 2 ^ 26
-  pub few_pages : layout.pages ≤ 2 ^ 19
+  pub few_pages : layout.pages ≤ MAX_IMAGE_PAGES
   pub outs_first : layout.out_first ≡ 1
   pub ins_behind : layout.in_first ≡ 1 + pages_for (sum index.outs * entry_bytes index.weighted)
   pub within : layout.in_first + pages_for (sum index.ins * entry_bytes index.weighted) ≤ layout.pages

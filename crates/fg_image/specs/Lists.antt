@@ -1,6 +1,7 @@
 -- The lists of a graph as they lie in the sections of an image.
 use Rattle.std.specs.Prelude.{ℕ, zero, suc, ◌+◌, ◌*◌, Bool, true, false, List, [], ◌∷◌, length, map, sum, take, slice_index}
 use Rattle.std.specs.List.{range_with_len}
+use Rattle.fg_base.specs.declared.limits.TheConstants.{PAGE_BYTES}
 use Rattle.fg_base.specs.declared.plain.Dir.{Dir}
 use Rattle.fg_base.specs.declared.plain.Dir.TheVariants.{Out, In}
 use Rattle.fg_base.specs.declared.plain.Entry.{Entry}
@@ -30,7 +31,7 @@ first_page_of layout In = layout.in_first
 
 -- the byte of the image at which the list of v begins: behind the lists of the vertices below v
 abbrev pub begin_of : Layout → ImageIndex → Dir → ℕ → ℕ
-begin_of layout index dir v = first_page_of layout dir * 4096 + sum (take v (degrees_in index dir)) * entry_bytes index.weighted
+begin_of layout index dir v = first_page_of layout dir * PAGE_BYTES + sum (take v (degrees_in index dir)) * entry_bytes index.weighted
 
 -- the byte behind it
 abbrev pub end_of : Layout → ImageIndex → Dir → ℕ → ℕ

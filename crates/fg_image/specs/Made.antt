@@ -2,6 +2,7 @@
 use Rattle.std.specs.Prelude.{ℕ, ◌+◌, ◌-◌, ◌*◌, ◌==◌, min, nat_le, Bool, true, false, List, [], ◌∷◌, ◌++◌, filter, length, map, replicate, sum_by, if◌then◌else◌}
 use Rattle.std.specs.List.{count_by, flat_map, range_with_len}
 use Rattle.byteorder.specs.Endian.{little_bytes}
+use Rattle.fg_base.specs.declared.limits.TheConstants.{PAGE_BYTES}
 use Rattle.fg_base.specs.declared.plain.Entry.{Entry}
 use Rattle.fg_image.specs.declared.header.Header.{Header}
 use Rattle.fg_image.specs.Header.{image_magic, pages_for}
@@ -100,7 +101,7 @@ spelled_header header =
 
 -- a section with zeros to whole pages
 abbrev pub padded : List ℕ → List ℕ
-padded bytes = bytes ++ replicate (pages_for (length bytes) * 4096 - length bytes) 0
+padded bytes = bytes ++ replicate (pages_for (length bytes) * PAGE_BYTES - length bytes) 0
 
 -- the image of a graph
 unfoldable pub spelled_image : Graph → List ℕ

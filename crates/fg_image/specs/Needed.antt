@@ -1,5 +1,6 @@
 -- The pages of an image on which lists stand.
 use Rattle.std.specs.Prelude.{◌≡◌, ℕ, ◌<◌, ◌≤◌, ◌/◌, List, [], ◌∷◌, Contains}
+use Rattle.fg_base.specs.declared.limits.TheConstants.{PAGE_BYTES}
 use Rattle.fg_base.specs.declared.plain.Dir.{Dir}
 use Rattle.fg_base.specs.declared.plain.Dir.TheVariants.{Out, In}
 use Rattle.fg_base.specs.declared.plain.Need.{Need}
@@ -18,7 +19,7 @@ pub record HoldsSome (begin end page : ℕ) : Type 0 where
   pub byte : ℕ
   pub from_begin : begin ≤ byte
   pub to_end : byte < end
-  pub is_page : page ≡ byte / 4096
+  pub is_page : page ≡ byte / PAGE_BYTES
 
 -- it holds some byte of the list of v in this direction
 abbrev pub HoldsListOf : Layout → ImageIndex → Dir → ℕ → ℕ → Type 0

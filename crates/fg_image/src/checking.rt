@@ -1,6 +1,7 @@
 //! The check of an image: its targets, its padding, and whether its in-lists mirror its out-lists.
 
 ghost use Rattle.std.specs.Prelude.{◌≡◌, ◌≢◌, ◌*◌, ◌≤◌, ◌^◌, IfErr, OnOk, length, sum};
+ghost use Rattle.fg_base.specs.declared.limits.TheConstants.{PAGE_BYTES};
 ghost use Rattle.fg_image.specs.Checking.{IsFaultless, IsFirstFault, IsFoundOr, IsSectionOf, bad_page, bad_page_in, padding_of, sections_in};
 ghost use Rattle.fg_image.specs.Front.{HeaderFits};
 ghost use Rattle.fg_image.specs.Image.{AreParts, IndexFits, IsImage, Parts, graph_in, parts_with};
@@ -52,7 +53,7 @@ fn bad_page(image: &[u8], section: Section) -> Option<u32>
 /// The first page of the image with a byte other than 0 behind its section's end.
 fn first_bad_page(layout: &Layout, header: &Header, image: &[u8]) -> Option<u32>
     requires fits { HeaderFits header.now layout.now }
-    requires whole { layout.now.pages * 4096 ≤ length image.now }
+    requires whole { layout.now.pages * PAGE_BYTES ≤ length image.now }
     ensures { result ≡ bad_page_in image.now (sections_in header.now layout.now) }
 {
     let size = entry_bytes(header.is_weighted()) as u64;
@@ -105,7 +106,7 @@ pub fn check_sections(
 ) -> Result<(), Refusal>
     requires header { HeaderFits header.now layout.now }
     requires fits { IndexFits layout.now index.now }
-    requires whole { layout.now.pages * 4096 ≤ length image.now }
+    requires whole { layout.now.pages * PAGE_BYTES ≤ length image.now }
     ensures ok { OnOk result (IsFaultless (parts_with header.now layout.now index.now) image.now) }
     ensures mirror { OnOk result (IsMirror (graph_by layout.now index.now image.now)) }
     ensures refusal { IfErr result (λ found. found ≢ Refusal.Memory →

@@ -1,6 +1,7 @@
 //! The graph of an image in memory.
 
 ghost use Rattle.std.specs.Prelude.{◌≡◌, ◌+◌, ◌*◌, ◌/◌, ◌≤◌, IfOk, Ok, length};
+ghost use Rattle.fg_base.specs.declared.limits.TheConstants.{PAGE_BYTES};
 ghost use Rattle.fg_image.specs.Image.{AreParts, IndexFits, IsImage, Parts, graph_in};
 ghost use Rattle.fg_image.specs.Lists.{entries_at, entry_at, first_page_of, graph_by, rows_of};
 ghost use Rattle.fg_index.specs.ImageIndex.{entry_bytes};
@@ -75,7 +76,7 @@ fn cut_rows(
     image: &[u8],
 ) -> Result<Items<Items<Entry>>, Memory>
     requires fits { IndexFits layout.now index.now }
-    requires whole { layout.now.pages * 4096 ≤ length image.now }
+    requires whole { layout.now.pages * PAGE_BYTES ≤ length image.now }
     ensures { IfOk result (λ rows. rows ≡ rows_of layout.now index.now image.now dir) }
 {
     let size = entry_bytes(index.weighted());
@@ -99,7 +100,7 @@ pub fn cut_graph(
     image: &[u8],
 ) -> Result<Graph, Memory>
     requires fits { IndexFits layout.now index.now }
-    requires whole { layout.now.pages * 4096 ≤ length image.now }
+    requires whole { layout.now.pages * PAGE_BYTES ≤ length image.now }
     ensures graph { IfOk result (λ graph. graph ≡ graph_by layout.now index.now image.now) }
     ensures limits { IfOk result IsWithinLimits }
 {

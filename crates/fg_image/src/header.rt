@@ -53,7 +53,7 @@ pub struct Header {
 }
 
 impl Header {
-    /// The header that the page of 4096 bytes is. Refuses, in this order: `BadHeader` where the page doesn't begin with
+    /// The header that the bytes of one page are. Refuses, in this order: `BadHeader` where the page doesn't begin with
     /// the mark of images, `BadVersion` where the version isn't 1, `BadHeader` where the flags or a count are out of
     /// their range or a byte behind the numbers isn't zero.
     pub fn read(page: &[u8]) -> Result<Header, Refusal>

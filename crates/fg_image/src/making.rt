@@ -2,7 +2,7 @@
 
 ghost use Rattle.std.specs.Prelude.{◌≡◌, ◌≤◌, ◌/◌, ◌^◌, IfOk, OnOk, length, map, sum};
 ghost use Rattle.std.specs.List.{range_with_len};
-ghost use Rattle.fg_base.specs.declared.limits.TheConstants.{MAX_ENTRIES, MAX_IMAGE_PAGES, MAX_VERTICES};
+ghost use Rattle.fg_base.specs.declared.limits.TheConstants.{MAX_ENTRIES, MAX_IMAGE_PAGES, MAX_VERTICES, PAGE_BYTES};
 ghost use Rattle.fg_base.specs.declared.plain.Dir.TheVariants.{In, Out};
 ghost use Rattle.fg_image.specs.Made.{graph_of_edges, header_for, image_bytes};
 ghost use Rattle.fg_image.specs.Making.{IsImageOf, count_of, index_bytes};
@@ -60,7 +60,7 @@ fn measure(alloc: Global, edges: &Edges) -> Result<Measures, Memory>
 /// How many pages the image of the edges has. The image itself is not made: beside a number per vertex and direction this
 /// takes no memory.
 pub fn image_pages(alloc: Global, edges: &Edges) -> Result<u32, Memory>
-    ensures pages { IfOk result (λ pages. pages ≡ length (image_bytes edges.now) / 4096) }
+    ensures pages { IfOk result (λ pages. pages ≡ length (image_bytes edges.now) / PAGE_BYTES) }
     ensures few { IfOk result (λ pages. pages ≤ MAX_IMAGE_PAGES) }
 {
     let measures = measure(alloc, edges)?;

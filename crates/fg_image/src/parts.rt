@@ -1,7 +1,7 @@
 //! What the bytes of an image say before its lists.
 
 ghost use Rattle.std.specs.Prelude.{◌≡◌, ◌≢◌, ◌+◌, ◌*◌, ◌≤◌, IfOk, IfErr, Ok, Err, length, sum};
-ghost use Rattle.fg_base.specs.declared.limits.TheConstants.{MAX_IMAGE_PAGES};
+ghost use Rattle.fg_base.specs.declared.limits.TheConstants.{MAX_IMAGE_PAGES, PAGE_BYTES};
 ghost use Rattle.fg_image.specs.Front.{HeaderFits};
 ghost use Rattle.fg_image.specs.Image.{IndexFits, index_in, parts_in};
 
@@ -22,7 +22,7 @@ pub(crate) struct ImageParts {
 
 /// The bytes of the section of the index.
 fn index_in<'a>(header: &Header, image: &'a [u8]) -> &'a [u8]
-    requires { header.now.index_first * 4096 + header.now.index_bytes ≤ length image.now }
+    requires { header.now.index_first * PAGE_BYTES + header.now.index_bytes ≤ length image.now }
     ensures { result.now ≡ index_in header.now image.now }
 {
     let behind = &image[header.index_first as usize * PAGE_BYTES..];
@@ -31,7 +31,7 @@ fn index_in<'a>(header: &Header, image: &'a [u8]) -> &'a [u8]
 
 /// Reads the header, the sections and the index of an image of so many pages, or the first refusal among them.
 pub(crate) fn read_parts(alloc: Global, image: &[u8], pages: u32) -> Result<ImageParts, Refusal>
-    requires whole { length image.now ≡ pages * 4096 }
+    requires whole { length image.now ≡ pages * PAGE_BYTES }
     requires some { 1 ≤ pages }
     requires few { pages ≤ MAX_IMAGE_PAGES }
     ensures parts { IfOk result (λ parts. parts_in pages image.now ≡ Ok (record { header = parts.header; layout = parts.layout; index = parts.index })) }

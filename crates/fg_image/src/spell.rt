@@ -3,6 +3,7 @@
 ghost use Rattle.std.specs.Prelude.{◌≡◌, ◌+◌, ◌*◌, ◌-◌, ◌^◌, ◌≤◌, ◌++◌, IfOk, length, map};
 ghost use Rattle.std.specs.List.{flat_map};
 ghost use Rattle.byteorder.specs.Endian.{little_bytes};
+ghost use Rattle.fg_base.specs.declared.limits.TheConstants.{PAGE_BYTES};
 ghost use Rattle.fg_image.specs.Header.{pages_for};
 ghost use Rattle.fg_image.specs.Made.{long_pairs, spelled_direction, spelled_entry};
 ghost use Rattle.fg_image.specs.Making.{blanks, byte_of, header_bytes, long_degrees, out_entry, pair_bytes};
@@ -72,7 +73,7 @@ pub(crate) fn with_zeros(bytes: Vec<u8>, count: usize) -> Result<Vec<u8>, Memory
 
 /// The bytes with zeros behind them, up to whole pages.
 pub(crate) fn padded(bytes: Vec<u8>) -> Result<Vec<u8>, Memory>
-    ensures { IfOk result (λ after. after.items ≡ bytes.items ++ blanks (pages_for (length bytes.items) * 4096 - length bytes.items)) }
+    ensures { IfOk result (λ after. after.items ≡ bytes.items ++ blanks (pages_for (length bytes.items) * PAGE_BYTES - length bytes.items)) }
 {
     let missing = bytes.len().div_ceil(PAGE_BYTES) * PAGE_BYTES - bytes.len();
     with_zeros(bytes, missing)

@@ -1,6 +1,7 @@
 //! Entries of an image whose target is no vertex.
 
 ghost use Rattle.std.specs.Prelude.{◌≡◌, ◌*◌, ◌<◌, ◌≤◌, find, length};
+ghost use Rattle.fg_base.specs.declared.limits.TheConstants.{PAGE_BYTES};
 ghost use Rattle.fg_image.specs.Checking.{bad_edge_in};
 ghost use Rattle.fg_image.specs.Image.{IndexFits};
 ghost use Rattle.fg_image.specs.Lists.{begin_of, graph_by, list_of};
@@ -23,7 +24,7 @@ fn bad_in_list(
     begin: usize,
 ) -> Option<BadEdge>
     requires fits { IndexFits layout.now index.now }
-    requires whole { layout.now.pages * 4096 ≤ length image.now }
+    requires whole { layout.now.pages * PAGE_BYTES ≤ length image.now }
     requires vertex { v < length index.now.outs }
     requires begin { begin ≡ begin_of layout.now index.now dir v }
     ensures { result ≡
@@ -49,7 +50,7 @@ fn bad_in_list(
 /// The first entry of the image that leads to no vertex. Each list is gone through once.
 pub(crate) fn first_bad_edge(layout: &Layout, index: &Index, image: &[u8]) -> Option<BadEdge>
     requires fits { IndexFits layout.now index.now }
-    requires whole { layout.now.pages * 4096 ≤ length image.now }
+    requires whole { layout.now.pages * PAGE_BYTES ≤ length image.now }
     ensures { result ≡ bad_edge_in (graph_by layout.now index.now image.now) }
 {
     let size = entry_bytes(index.weighted());

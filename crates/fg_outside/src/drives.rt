@@ -8,7 +8,7 @@ use crate::Drive;
 use fg_base::Failed;
 use fg_base::limits::PAGE_BYTES;
 
-/// Reads one page of the drive of this number into `into`, of 4096 bytes. Where the drive fails, what `into` holds is
+/// Reads one page of the drive of this number into `into`, of `PAGE_BYTES`. Where the drive fails, what `into` holds is
 /// open.
 pub fn read_page<D: Drive>(
     drives: &mut [D],

@@ -1,11 +1,12 @@
 -- The image that drives hold: each drive is a list of bytes, its label first and behind it its pages of the image.
 use Rattle.std.specs.Prelude.{ℕ, ◌*◌, List, [], length, take, drop, slice_index_or}
 use Rattle.std.specs.List.{flat_map, range_with_len}
+use Rattle.fg_base.specs.declared.limits.TheConstants.{PAGE_BYTES}
 use Rattle.fg_stripe.specs.Striping.{drive_of, local_of}
 
 -- a page of a list of pages
 abbrev pub page_of : List ℕ → ℕ → List ℕ
-page_of bytes page = take 4096 (drop (page * 4096) bytes)
+page_of bytes page = take PAGE_BYTES (drop (page * PAGE_BYTES) bytes)
 
 -- a page of the image at its place, on drives that hold these bytes in units of so many pages
 abbrev pub page_on : ℕ → List (List ℕ) → ℕ → List ℕ

@@ -3,6 +3,7 @@
 use Rattle.std.specs.Prelude.{ℕ, Bool, Option, Some, None, List, [], ◌∷◌, ◌++◌, ◌==◌, ◌&&◌, nat_le, nat_lt, nat_eq, replicate, drop, if◌then◌else◌}
 use Rattle.std.specs.List.{list_all, starts_with}
 use Rattle.byteorder.specs.Endian.{little_number, little_bytes}
+use Rattle.fg_base.specs.declared.limits.TheConstants.{MAX_IMAGE_PAGES}
 use Rattle.fg_stripe.specs.declared.label.Label.{Label}
 
 -- the number in 4 bytes from a place on, and in 8
@@ -24,7 +25,7 @@ zeros n = replicate n 0
 abbrev pub drive_magic : List ℕ
 drive_magic = 70 ∷ 71 ∷ 68 ∷ 82 ∷ 73 ∷ 86 ∷ 69 ∷ 0 ∷ []
 
--- the fields are within their ranges: a drive of 1 to 16, a unit of 1 to 256 pages, 2 to 2^19 image pages
+-- the fields are within their ranges: a drive of 1 to 16, a unit of 1 to 256 pages, 2 to `MAX_IMAGE_PAGES` image pages
 abbrev pub is_accepted : Label → Bool
 is_accepted label =
     nat_lt label.drive label.drives
@@ -32,7 +33,7 @@ is_accepted label =
     && nat_le 1 label.unit
     && nat_le label.unit 256
     && nat_le 2 label.pages
-    && nat_le label.pages 524288
+    && nat_le label.pages MAX_IMAGE_PAGES
 
 -- the fields, from byte 8 to byte 32 of the page
 abbrev pub fields_of : List ℕ → Label

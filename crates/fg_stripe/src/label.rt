@@ -26,7 +26,7 @@ pub struct Label {
 }
 
 impl Label {
-    /// Writes the label over the page of 4096 bytes. It is read back where its fields are within their ranges, and
+    /// Writes the label over the bytes of one page. It is read back where its fields are within their ranges, and
     /// leaves no label otherwise.
     pub fn write(&self, into: &mut [u8])
         requires { length into.old ≡ PAGE_BYTES }
@@ -49,7 +49,7 @@ impl Label {
         put_wide_number(into, 24, number);
     }
 
-    /// The label that the page of 4096 bytes is, or `None` where it isn't one: where it doesn't begin with the mark of
+    /// The label that the bytes of one page are, or `None` where it isn't one: where it doesn't begin with the mark of
     /// labels, a field is out of its range, or a byte behind the fields isn't zero.
     pub fn read(page: &[u8]) -> Option<Label>
         requires { length page.now ≡ PAGE_BYTES }

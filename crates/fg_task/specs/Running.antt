@@ -1,6 +1,7 @@
 -- What running jobs on a page's bytes needs and does.
 use Rattle.std.specs.Prelude.{◌≡◌, ℕ, ◌+◌, ◌^◌, ◌<◌, Option, List, All, length}
 use Rattle.std.specs.List.{flat_map, sum_by}
+use Rattle.fg_base.specs.declared.limits.TheConstants.{PAGE_BYTES}
 use Rattle.fg_base.specs.declared.plain.BadEdge.{BadEdge}
 use Rattle.fg_batch.specs.Outbox.{HasRoom, Sending, Sends}
 use Rattle.fg_model.specs.declared.mail.Mail.{Mail}
@@ -22,7 +23,7 @@ edges_of work bytes jobs = flat_map (edges_in work bytes) jobs
 
 -- the jobs can be run: the outbox has room for their entries, and the count of entries, which stands at `counted`, too
 pub record CanRun (work : Work) (bytes : List ℕ) (jobs : List Job) (outbox : Sending) (counted : ℕ) : Type 0 where
-  pub page : length bytes ≡ 4096
+  pub page : length bytes ≡ PAGE_BYTES
   pub are_jobs : All (IsJob work) jobs
   pub vertices : outbox.map.n ≡ work.n
   pub room : HasRoom (entries_of work jobs) outbox

@@ -1,6 +1,7 @@
 //! What a worker has to do for a block.
 
 ghost use Rattle.std.specs.Prelude.{◌≡◌, ℕ, ◌+◌, ◌^◌, ◌<◌, ◌≤◌, [], IfOk, OnErr, OnOk, length};
+ghost use Rattle.fg_base.specs.declared.limits.TheConstants.{PAGE_BYTES};
 ghost use Rattle.fg_batch.specs.Outbox.{HasRoom, Sends};
 ghost use Rattle.fg_task.specs.Book.{ArePagesOf, jobs_of, jobs_on, with_job, without_page};
 ghost use Rattle.fg_task.specs.Jobs.{IsJob, entry_count};
@@ -93,7 +94,7 @@ impl<F: SegmentRun> TaskBook<F> {
         outbox.reserve(added(outs, ins)?)
     }
 
-    /// Runs the jobs that wait for a page on its 4096 bytes, and takes them out. What each does is what its function says of it.
+    /// Runs the jobs that wait for a page on its bytes, and takes them out. What each does is what its function says of it.
     /// The answer is the least bad edge of them all. It takes no memory.
     pub fn run_on<T: Tally>(
         &mut self,
@@ -102,7 +103,7 @@ impl<F: SegmentRun> TaskBook<F> {
         outbox: &mut Outbox,
         tally: &mut T,
     ) -> Option<BadEdge>
-        requires page { length bytes.now ≡ 4096 }
+        requires page { length bytes.now ≡ PAGE_BYTES }
         requires vertices { outbox.old.map.n ≡ (F.work self.old.function).n }
         requires room { HasRoom (entries_of (F.work self.old.function) (jobs_on page self.old)) outbox.old }
         requires counted { T.entries tally.old + entries_of (F.work self.old.function) (jobs_on page self.old) < 2 ^ 64 }

@@ -1,6 +1,7 @@
 //! The function that runs jobs.
 
 ghost use Rattle.std.specs.Prelude.{◌≡◌, ℕ, ◌+◌, ◌^◌, ◌<◌, length};
+ghost use Rattle.fg_base.specs.declared.limits.TheConstants.{PAGE_BYTES};
 ghost use Rattle.fg_batch.specs.Outbox.{HasRoom, Sends};
 ghost use Rattle.fg_task.specs.declared.job.Step.TheVariants.{Done};
 ghost use Rattle.fg_task.specs.Jobs.{IsJob, Work, bad_in, entry_count, messages_in};
@@ -22,7 +23,7 @@ pub trait SegmentRun: Drop {
     /// Sends the messages along the entries of the job's segment, in order, of those entries that lead to a vertex. It counts
     /// each of these entries, and answers the first of the others. It takes no memory.
     fn run<T: Tally>(&self, job: &Job, bytes: &[u8], outbox: &mut Outbox, tally: &mut T) -> Step
-        requires page { length bytes.now ≡ 4096 }
+        requires page { length bytes.now ≡ PAGE_BYTES }
         requires job { IsJob (work self.now) job.now }
         requires vertices { outbox.old.map.n ≡ (work self.now).n }
         requires room { HasRoom (entry_count (work self.now) job.now) outbox.old }

@@ -1,6 +1,7 @@
 //! A small block, run page by page, whose messages come to the states.
 
 ghost use Rattle.std.specs.Prelude.{◌≡◌, ◌+◌, ◌^◌, ◌<◌, ◌≤◌, [], All, false, OnOk, length};
+ghost use Rattle.fg_base.specs.declared.limits.TheConstants.{PAGE_BYTES};
 ghost use Rattle.fg_batch.specs.Outbox.{IsForItsPart};
 ghost use Rattle.fg_edges.specs.Segment.{IsSegment, count_of};
 ghost use Rattle.fg_task.specs.Book.{jobs_of};
@@ -61,7 +62,7 @@ fn run_page<F: SegmentRun>(
     bytes: &[u8],
     outbox: &mut Outbox,
 ) -> Result<(Option<BadEdge>, u64), Memory>
-    requires page { length bytes.now ≡ 4096 }
+    requires page { length bytes.now ≡ PAGE_BYTES }
     requires vertices { outbox.old.map.n ≡ (F.work book.old.function).n }
     requires few { entries_of (F.work book.old.function) (jobs_of book.old) < 2 ^ 64 }
     ensures function { book.new.function ≡ book.old.function }

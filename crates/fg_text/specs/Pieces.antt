@@ -8,6 +8,7 @@ use Rattle.fg_base.specs.declared.refusal.Refusal.TheVariants.{InputFault, TextT
 use Rattle.fg_model.specs.Edges.{EdgeList}
 use Rattle.fg_text.specs.declared.reader.Reader.{Reader}
 use Rattle.fg_text.specs.Reader.{Refuses, line_ends, reads_on}
+use Rattle.fg_text.specs.declared.pieces.TheConstants.{PIECE_BYTES}
 
 -- nothing is left, where that is told
 abbrev pub IsAtEnd : Option (List ℕ) → Type 0
@@ -39,12 +40,12 @@ abbrev pub PieceRefused : ℕ → Reader → Option (List ℕ) → Option (List 
 PieceRefused most reader old new before after InputFault = (before ≤ after) × Rose before after × (new ≡ old)
 PieceRefused most reader old new before after refusal = (after ≡ before) × RefusedAtOnce most reader old new refusal
 
--- a piece of at most 4096 bytes, behind others, was taken and refused
+-- a piece of at most `PIECE_BYTES` bytes, behind others, was taken and refused
 pub record RefusedPiece (reader : Reader) (old new : Option (List ℕ)) (refusal : Refusal) : Type 0 where
   pub before : List ℕ
   pub piece : List ℕ
   pub moved : old ≡ led_by (before ++ piece) new
-  pub short : length piece ≤ 4096
+  pub short : length piece ≤ PIECE_BYTES
   pub fits : length (before ++ piece) ≤ MAX_TEXT_BYTES
   pub refused : Refuses (reader.number + line_ends before) (reader.number + line_ends (before ++ piece)) (λ whole rest. reads_on whole reader ((before ++ piece) ++ rest)) refusal
 
@@ -55,7 +56,7 @@ pub record IsOverlong (reader : Reader) (old new : Option (List ℕ)) : Type 0 w
   pub moved : old ≡ led_by (taken ++ more) new
   pub full : length taken ≡ MAX_TEXT_BYTES
   pub over : 0 < length more
-  pub few : length more ≤ 4096
+  pub few : length more ≤ PIECE_BYTES
   pub edges : EdgeList
   pub reads : reads_on false reader taken ≡ Ok edges
 

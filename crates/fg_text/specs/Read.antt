@@ -8,18 +8,19 @@ use Rattle.fg_base.specs.declared.refusal.Refusal.TheVariants.{Memory, InputFaul
 use Rattle.fg_text.specs.Pieces.{IsAtEnd, TookFront}
 use Rattle.fg_text.specs.Reader.{line_ends}
 use Rattle.fg_text.specs.Text.{read_text}
+use Rattle.fg_text.specs.declared.pieces.TheConstants.{PIECE_BYTES}
 
 -- the bytes left, where they are told, are a text that is refused so
 abbrev pub SaysRefusal : Bool → Option (List ℕ) → Refusal → Type 0
 SaysRefusal undirected left refusal = IfSome left (λ bytes. read_text undirected bytes ≡ Err refusal)
 
--- what was taken ends with a piece of at most 4096 bytes in which the line of this number ended; where no line end ended it
--- the text did
+-- what was taken ends with a piece of at most `PIECE_BYTES` in which the line of this number ended; where no line end ended
+-- it the text did
 pub record StopsBehind (line : ℕ) (old new : Option (List ℕ)) : Type 0 where
   pub before : List ℕ
   pub piece : List ℕ
   pub moved : old ≡ led_by (before ++ piece) new
-  pub short : length piece ≤ 4096
+  pub short : length piece ≤ PIECE_BYTES
   pub unended : line_ends before < line
   pub ended : (line ≤ line_ends (before ++ piece)) ⊎ IsAtEnd new
 
@@ -30,7 +31,7 @@ pub record RefusesText (undirected : Bool) (old new : Option (List ℕ)) (line :
 
 -- no more than a piece was taken beyond the bytes that a text may have
 abbrev pub StopsSoon : Option (List ℕ) → Option (List ℕ) → Type 0
-StopsSoon old new = (taken : List ℕ) × (length taken ≤ MAX_TEXT_BYTES + 4096) × (old ≡ led_by taken new)
+StopsSoon old new = (taken : List ℕ) × (length taken ≤ MAX_TEXT_BYTES + PIECE_BYTES) × (old ≡ led_by taken new)
 
 -- why a text wasn't read: want of memory, a fault of the source, whose count rose, or what the text says
 abbrev pub ReadRefused : Bool → Option (List ℕ) → Option (List ℕ) → ℕ → ℕ → Refusal → Type 0

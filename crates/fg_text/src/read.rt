@@ -17,7 +17,7 @@ use std::alloc::Global;
 /// than once has its least weight. The bytes are gone over once, and nothing is taken for a line; pairs are sorted once, in place.
 ///
 /// `BadLine`, `IdTooLarge` and `TooManyEdges` name the first line that is refused, from 1; reading stops with the piece, of at
-/// most 4096 bytes, in which it ends. `TextTooLong`: there are more than 2^32 bytes. `InputFault`: the source failed, and its
+/// most `PIECE_BYTES`, in which it ends. `TextTooLong`: there are more than 2^32 bytes. `InputFault`: the source failed, and its
 /// count of faults rose. `Memory`: memory was wanting.
 pub fn read_edges<S: Source>(
     alloc: Global,

@@ -1,5 +1,6 @@
 -- The lists of a graph as they lie in an image.
 use Rattle.std.specs.Prelude.{◌≡◌, ◌≤◌, ℕ, ◌+◌, ◌*◌, Bool, true, false, Option, None, Some, List, [], ◌++◌, map, slice_index}
+use Rattle.fg_base.specs.declared.limits.TheConstants.{PAGE_BYTES}
 use Rattle.fg_base.specs.declared.plain.BadEdge.{BadEdge}
 use Rattle.fg_base.specs.declared.plain.Dir.{Dir}
 use Rattle.fg_base.specs.declared.plain.Entry.{Entry}
@@ -39,8 +40,8 @@ pub record IsPartBehind (stretch : Stretch) (done : ℕ) (part : Part) : Type 0 
   pub place : part.place ≡ done
   pub some : 1 ≤ part.count
   pub within_list : done + part.count ≤ stretch.count
-  pub on_page : part.page * 4096 + part.from ≡ stretch.begin + done * entry_bytes stretch.weighted
-  pub within_page : part.from + part.count * entry_bytes stretch.weighted ≤ 4096
+  pub on_page : part.page * PAGE_BYTES + part.from ≡ stretch.begin + done * entry_bytes stretch.weighted
+  pub within_page : part.from + part.count * entry_bytes stretch.weighted ≤ PAGE_BYTES
 
 -- the entries of a stretch
 abbrev pub entries_on : List ℕ → Stretch → List Entry

@@ -1,6 +1,7 @@
 //! A page of the image, read from the drive that holds it.
 
 ghost use Rattle.std.specs.Prelude.{◌≡◌, ◌<◌, IfErr, OnOk, length, true};
+ghost use Rattle.fg_base.specs.declared.limits.TheConstants.{PAGE_BYTES};
 ghost use Rattle.fg_build.specs.Answers.{HoldWhole, OpenedFits};
 ghost use Rattle.fg_build.specs.OpeningReads.{page_read};
 ghost use Rattle.fg_model.specs.Engine.{MatchIterFault};
@@ -22,7 +23,7 @@ pub fn read_image_page<D: Drive>(
     page: u32,
     into: &mut [u8],
 ) -> Result<(), IterFault>
-    requires whole { length into.old ≡ 4096 }
+    requires whole { length into.old ≡ PAGE_BYTES }
     requires fits { OpenedFits opened.now }
     requires told { HoldWhole D.told opened.now.layout drives.old }
     requires within { page < opened.now.layout.pages }

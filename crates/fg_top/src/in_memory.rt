@@ -20,18 +20,15 @@ ghost use Rattle.fg_top.specs.RunJob.{OpeningRefused};
 ghost use Rattle.fg_top.specs.Running.{RunComesTo};
 
 use crate::opening::open_sourced;
+use crate::picked::with_picked;
 use crate::report::{close_run, refuse, write_head_of};
 use crate::wish::Wish;
 use fg_base::{Count, Refusal};
 use fg_build::{Opened, read_all};
-use fg_comps::{Core, Wcc};
 use fg_image::{Header, cut_graph};
 use fg_model::{Graph, Program, plain_run};
 use fg_outside::{Drive, Sink};
-use fg_rank::Rank;
 use fg_report::ReportWatch;
-use fg_walks::{Bfs, Sssp};
-use fg_words::Pick;
 use std::alloc::Global;
 
 /// The graph of the image that was opened on these drives. The image's bytes are gone when this returns.
@@ -93,13 +90,7 @@ fn run_picked<K: Sink>(alloc: Global, wish: Wish, graph: &Graph, out: &mut K) ->
         (RunComesTo (rules_of wish.pick) wish (Some graph.now) (run_in wish))
         (output_between K.Sink out.old out.new) result }
 {
-    match wish.pick {
-        Pick::Bfs(source) => report_run(alloc, &Bfs { source }, wish, graph, out),
-        Pick::Sssp(source) => report_run(alloc, &Sssp { source }, wish, graph, out),
-        Pick::Wcc => report_run(alloc, &Wcc, wish, graph, out),
-        Pick::Core => report_run(alloc, &Core, wish, graph, out),
-        Pick::Rank(cut) => report_run(alloc, &Rank { cut }, wish, graph, out),
-    }
+    with_picked!(wish.pick, program => report_run(alloc, &program, wish, graph, out))
 }
 
 /// The header and the graph of an image.

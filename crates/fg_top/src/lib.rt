@@ -27,6 +27,7 @@ mod lists;
 mod opening;
 mod paged;
 mod pages;
+mod picked;
 mod report;
 mod run;
 mod send;

@@ -1,6 +1,7 @@
 //! Where the lists of the vertices lie in the image.
 
 ghost use Rattle.std.specs.Prelude.{◌≡◌, ◌+◌, ◌-◌, ◌*◌, ◌/◌, ◌%◌, ◌<◌, ◌≤◌, ◌^◌, length, min};
+ghost use Rattle.fg_base.specs.declared.limits.TheConstants.{PAGE_BYTES};
 ghost use Rattle.fg_build.specs.Answers.{OpenedFits};
 ghost use Rattle.fg_image.specs.Lists.{first_page_of};
 ghost use Rattle.fg_index.specs.ImageIndex.{entry_bytes};
@@ -56,7 +57,7 @@ impl Stretch {
         requires whole { self.begin % entry_bytes self.weighted ≡ 0 }
         requires few { behind self ≤ 2 ^ 31 }
         ensures part { IsPartBehind self done result }
-        ensures all_there { result.count ≡ min (self.count - done) ((4096 - result.from) / entry_bytes self.weighted) }
+        ensures all_there { result.count ≡ min (self.count - done) ((PAGE_BYTES - result.from) / entry_bytes self.weighted) }
     {
         let size = entry_bytes(self.weighted);
         let at = self.begin + done * size;

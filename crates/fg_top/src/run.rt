@@ -15,17 +15,14 @@ ghost use Rattle.fg_top.specs.Tallies.{RoseByWish, RoseWithin, Stood, begins_of}
 
 use crate::opening::open_sourced;
 use crate::paged::{Paged, run_paged};
+use crate::picked::with_picked;
 use crate::report::{close_run, refuse, write_head_of};
 use crate::wish::Wish;
 use fg_base::{Refusal, Tally};
 use fg_build::Opened;
-use fg_comps::{Core, Wcc};
 use fg_model::Program;
 use fg_outside::{Drive, Sink};
-use fg_rank::Rank;
 use fg_report::ReportWatch;
-use fg_walks::{Bfs, Sssp};
-use fg_words::Pick;
 use std::alloc::Global;
 use std::mem;
 
@@ -85,17 +82,7 @@ fn run_picked<D: Drive, K: Sink, T: Tally>(
     ensures { RunsOpened wish opened D.Drive drives.items result.drives.items (output_between K.Sink out.old out.new)
         (tally_between T.Tally tally.old tally.new) result.status }
 {
-    match wish.pick {
-        Pick::Bfs(source) => {
-            report_run(alloc, &Bfs { source }, wish, opened, drives, out, tally)
-        }
-        Pick::Sssp(source) => {
-            report_run(alloc, &Sssp { source }, wish, opened, drives, out, tally)
-        }
-        Pick::Wcc => report_run(alloc, &Wcc, wish, opened, drives, out, tally),
-        Pick::Core => report_run(alloc, &Core, wish, opened, drives, out, tally),
-        Pick::Rank(cut) => report_run(alloc, &Rank { cut }, wish, opened, drives, out, tally),
-    }
+    with_picked!(wish.pick, program => report_run(alloc, &program, wish, opened, drives, out, tally))
 }
 
 /// Does a run over the drives: they are opened, the source is looked at, and then the run is written, its head first.

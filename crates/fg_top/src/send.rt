@@ -1,6 +1,7 @@
 //! What a vertex sends along entries that lie in memory.
 
 ghost use Rattle.std.specs.Prelude.{◌≡◌, ◌+◌, ◌*◌, ◌<◌, ◌≤◌, ◌^◌, All, IfErr, OnOk, Some, length, map};
+ghost use Rattle.fg_base.specs.declared.limits.TheConstants.{PAGE_BYTES};
 ghost use Rattle.fg_index.specs.ImageIndex.{entry_bytes};
 ghost use Rattle.fg_model.specs.Engine.{RoseUpTo};
 ghost use Rattle.fg_model.specs.Program.{IsInRange};
@@ -30,8 +31,8 @@ pub fn send_along<P: Program, T: Tally>(
     states: &mut [VState],
     tally: &mut T,
 ) -> Result<(), BadEdge>
-    requires whole { length page.now ≡ 4096 }
-    requires within { part.from + part.count * entry_bytes part.weighted ≤ 4096 }
+    requires whole { length page.now ≡ PAGE_BYTES }
+    requires within { part.from + part.count * entry_bytes part.weighted ≤ PAGE_BYTES }
     requires few { part.place + part.count < 2 ^ 32 }
     requires fit { All IsInRange states.old }
     requires room { T.entries tally.old + part.count < 2 ^ 64 }

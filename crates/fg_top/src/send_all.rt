@@ -1,6 +1,7 @@
 //! What all active vertices send.
 
 ghost use Rattle.std.specs.Prelude.{◌≡◌, ◌+◌, ◌<◌, ◌≤◌, ◌^◌, All, IfErr, IfOk, OnOk, Some, length, map, true};
+ghost use Rattle.fg_base.specs.declared.limits.TheConstants.{PAGE_BYTES};
 ghost use Rattle.fg_build.specs.Answers.{HoldWhole, OpenedFits};
 ghost use Rattle.fg_model.specs.Engine.{MatchIterFault, RoseUpTo};
 ghost use Rattle.fg_model.specs.Program.{IsInRange};
@@ -28,7 +29,7 @@ pub fn send_all<P: Program, D: Drive, T: Tally>(
     states: &mut [VState],
     tally: &mut T,
 ) -> Result<u64, IterFault>
-    requires whole { length page.old ≡ 4096 }
+    requires whole { length page.old ≡ PAGE_BYTES }
     requires fits { OpenedFits opened.now }
     requires told { HoldWhole D.told opened.now.layout drives.old }
     requires ascend { Ascend 0 (length opened.now.index.outs) (map vertex_of senders.now) }

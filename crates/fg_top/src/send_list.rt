@@ -1,6 +1,7 @@
 //! What a vertex sends along one of its lists, which is read page by page.
 
 ghost use Rattle.std.specs.Prelude.{◌≡◌, ◌+◌, ◌*◌, ◌%◌, ◌<◌, ◌≤◌, ◌^◌, All, IfErr, IfOk, OnOk, Some, length, map, true};
+ghost use Rattle.fg_base.specs.declared.limits.TheConstants.{PAGE_BYTES};
 ghost use Rattle.fg_build.specs.Answers.{HoldWhole, OpenedFits};
 ghost use Rattle.fg_index.specs.ImageIndex.{entry_bytes};
 ghost use Rattle.fg_model.specs.Engine.{MatchIterFault, RoseUpTo};
@@ -33,10 +34,10 @@ pub fn send_list<P: Program, D: Drive, T: Tally>(
     states: &mut [VState],
     tally: &mut T,
 ) -> Result<u64, IterFault>
-    requires whole { length page.old ≡ 4096 }
+    requires whole { length page.old ≡ PAGE_BYTES }
     requires fits { OpenedFits opened.now }
     requires told { HoldWhole D.told opened.now.layout drives.old }
-    requires within { behind stretch ≤ opened.now.layout.pages * 4096 }
+    requires within { behind stretch ≤ opened.now.layout.pages * PAGE_BYTES }
     requires entire { stretch.begin % entry_bytes stretch.weighted ≡ 0 }
     requires fit { All IsInRange states.old }
     requires room { T.entries tally.old + stretch.count < 2 ^ 64 }

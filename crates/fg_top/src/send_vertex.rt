@@ -1,6 +1,7 @@
 //! What one vertex sends along its needed lists.
 
 ghost use Rattle.std.specs.Prelude.{◌≡◌, ◌+◌, ◌++◌, ◌<◌, ◌≤◌, ◌^◌, All, IfErr, IfOk, OnOk, Some, length, map, slice_index, true};
+ghost use Rattle.fg_base.specs.declared.limits.TheConstants.{PAGE_BYTES};
 ghost use Rattle.fg_base.specs.declared.plain.Dir.TheVariants as Dir;
 ghost use Rattle.fg_base.specs.declared.plain.Need.TheVariants as Need;
 ghost use Rattle.fg_build.specs.Answers.{HoldWhole, OpenedFits};
@@ -33,7 +34,7 @@ fn send_direction<P: Program, D: Drive, T: Tally>(
     states: &mut [VState],
     tally: &mut T,
 ) -> Result<u64, IterFault>
-    requires whole { length page.old ≡ 4096 }
+    requires whole { length page.old ≡ PAGE_BYTES }
     requires fits { OpenedFits opened.now }
     requires told { HoldWhole D.told opened.now.layout drives.old }
     requires within { sender.v < length opened.now.index.outs }
@@ -77,7 +78,7 @@ fn send_both<P: Program, D: Drive, T: Tally>(
     states: &mut [VState],
     tally: &mut T,
 ) -> Result<u64, IterFault>
-    requires whole { length page.old ≡ 4096 }
+    requires whole { length page.old ≡ PAGE_BYTES }
     requires fits { OpenedFits opened.now }
     requires told { HoldWhole D.told opened.now.layout drives.old }
     requires within { sender.v < length opened.now.index.outs }
@@ -151,7 +152,7 @@ pub fn send_vertex<P: Program, D: Drive, T: Tally>(
     states: &mut [VState],
     tally: &mut T,
 ) -> Result<u64, IterFault>
-    requires whole { length page.old ≡ 4096 }
+    requires whole { length page.old ≡ PAGE_BYTES }
     requires fits { OpenedFits opened.now }
     requires told { HoldWhole D.told opened.now.layout drives.old }
     requires within { sender.v < length opened.now.index.outs }

@@ -7,6 +7,7 @@ use crate::{drive_names, flash};
 use byteorder::{ByteOrder, LittleEndian};
 use fg_base::Count;
 use fg_base::limits::{MAX_DRIVES, PAGE_BYTES};
+use fg_build::sample::{DIAMOND, Numbers};
 use fg_outside::{Drive, DriveOp, MemDrive, MemSink, MemSource};
 use fg_stripe::Label;
 use std::alloc::{AllocError, Global};
@@ -17,39 +18,6 @@ use std::thread::Threads;
 
 /// The pages of each image.
 const PAGES: usize = 4;
-
-/// The numbers of 4 bytes of an image that aren't 0, each with its place.
-pub type Numbers = &'static [(usize, u32)];
-
-/// Five vertices with the out-lists 1 2, 3, 3 and 4, and the in-lists 0, 0, 1 2 and 3.
-pub const DIAMOND: Numbers = &[
-    // `FGIM`, `AGE`, version 1, 5 vertices, 4 pages, 5 entries both ways in 20 bytes each, an index of 18 bytes
-    (0, 0x4d49_4746),
-    (4, 0x0045_4741),
-    (8, 1),
-    (16, 5),
-    (20, 4),
-    (24, 5),
-    (32, 5),
-    (40, 20),
-    (48, 20),
-    (56, 18),
-    (64, 1),
-    (68, 2),
-    (72, 3),
-    (4096, 1),
-    (4100, 2),
-    (4104, 3),
-    (4108, 3),
-    (4112, 4),
-    (8200, 1),
-    (8204, 2),
-    (8208, 3),
-    // the degrees 2, 1, 1, 1, 0 and 0, 1, 1, 2, 1, and no degree that stands apart
-    (12_288, 0x0101_0102),
-    (12_296, 0x0101_0000),
-    (12_300, 0x0000_0102),
-];
 
 /// Two vertices that lead to each other.
 const PAIR: Numbers = &[

@@ -5,16 +5,14 @@ use Rattle.fg_base.specs.declared.plain.Entry.{Entry}
 use Rattle.fg_base.specs.declared.plain.VState.{VState}
 use Rattle.fg_model.specs.Iteration.{own_state}
 use Rattle.fg_walks.specs.Bfs.{bfs}
+use Rattle.fg_walks.specs.LeastWalks.{cost_by, least_walks}
 use Rattle.fg_walks.specs.Spread.{spread}
 use Rattle.fg_walks.specs.Sssp.{sssp}
 
-pub bfs_spreads : (source : ℕ) → bfs source ≡ spread (λ entry. 1) source
-unfolding bfs
-bfs_spreads source = refl
-
-pub sssp_spreads : (source : ℕ) → sssp source ≡ spread (λ entry. entry.weight) source
-unfolding sssp
-sssp_spreads source = refl
+pub least_walks_spread : (weighted : Bool) (source : ℕ) → least_walks weighted source ≡ spread (cost_by weighted) source
+unfolding bfs sssp
+least_walks_spread true source = refl
+least_walks_spread false source = refl
 
 -- a vertex's own state
 pub own_number : (cost : Entry → ℕ) (source phase v : ℕ) (s : VState) (awake : Bool) → nat_lt s.a s.b ≡ awake → (own_state (spread cost source) phase v s).a ≡ s.a

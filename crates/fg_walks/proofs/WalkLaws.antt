@@ -23,7 +23,6 @@ use Rattle.fg_walks.specs.Walks.{AreSumsWhole, MakesWholeSums, AreLeastValues, G
 use Rattle.fg_model.proofs.AfterLemmas.{length-opening, opening_at}
 use Rattle.fg_model.proofs.Each.{all_from_each, each_at}
 use Rattle.fg_walks.proofs.Settles.{HoldsAtRest, finishes, settles}
-use Rattle.fg_walks.proofs.Spread.{bfs_spreads, sssp_spreads}
 use Rattle.fg_walks.proofs.SpreadStep.{AreCosts, IsSpread, Passed, Reached, at, is_awake, past_number, spread_next, top}
 
 -- what is no vertex has no entries
@@ -204,21 +203,17 @@ units_low : (graph : Graph) → IsWithinLimits graph → AreCosts (λ entry. 1) 
 units_low graph within = record { low = λ v entry has. omega arith }
 
 pub levels_are_whole : (source : ℕ) → MakesWholeSums (λ entry. 1) (bfs source)
-levels_are_whole source =
-    let Law : Rules → Type 0 = λ P. MakesWholeSums (λ entry. 1) P in
-    subst Law (sym (bfs_spreads source)) (spread_sums (λ entry. 1) source units_low)
+unfolding bfs
+levels_are_whole source = spread_sums (λ entry. 1) source units_low
 
 pub weights_are_whole : (source : ℕ) → MakesWholeSums (λ entry. entry.weight) (sssp source)
-weights_are_whole source =
-    let Law : Rules → Type 0 = λ P. MakesWholeSums (λ entry. entry.weight) P in
-    subst Law (sym (sssp_spreads source)) (spread_sums (λ entry. entry.weight) source weights_low)
+unfolding sssp
+weights_are_whole source = spread_sums (λ entry. entry.weight) source weights_low
 
 pub levels_are_least : (source : ℕ) → LevelsAreLeastLengths source
-levels_are_least source =
-    let Law : Rules → Type 0 = λ P. GivesLeastValues length P source in
-    subst Law (sym (bfs_spreads source)) (spread_gives (λ entry. 1) length source length_is units_low)
+unfolding bfs
+levels_are_least source = spread_gives (λ entry. 1) length source length_is units_low
 
 pub values_are_least : (source : ℕ) → ValuesAreLeastWeights source
-values_are_least source =
-    let Law : Rules → Type 0 = λ P. GivesLeastValues weight P source in
-    subst Law (sym (sssp_spreads source)) (spread_gives (λ entry. entry.weight) weight source (λ entries. refl) weights_low)
+unfolding sssp
+values_are_least source = spread_gives (λ entry. entry.weight) weight source (λ entries. refl) weights_low

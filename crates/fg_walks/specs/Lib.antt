@@ -2,4 +2,5 @@ pub mod Spread
 pub mod SpreadLaws
 pub mod Bfs
 pub mod Sssp
+pub mod LeastWalks
 pub mod Walks

@@ -6,6 +6,7 @@ use Rattle.fg_base.specs.declared.plain.Value.TheVariants.{Absent, One}
 use Rattle.fg_base.specs.declared.plain.VState.{VState}
 use Rattle.fg_model.specs.Program.{IsShownInRange, IsLawful}
 use Rattle.fg_walks.specs.Bfs.{bfs}
+use Rattle.fg_walks.specs.LeastWalks.{least_walks}
 use Rattle.fg_walks.specs.Spread.{none, spread}
 use Rattle.fg_walks.specs.Sssp.{sssp}
 
@@ -46,3 +47,7 @@ bfs_is_lawful = spread_is_lawful (λ entry. 1)
 pub sssp_is_lawful : (source : ℕ) → IsLawful (sssp source)
 unfolding sssp
 sssp_is_lawful = spread_is_lawful (λ entry. entry.weight)
+
+pub least_walks_are_lawful : (weighted : Bool) (source : ℕ) → IsLawful (least_walks weighted source)
+least_walks_are_lawful false source = bfs_is_lawful source
+least_walks_are_lawful true source = sssp_is_lawful source

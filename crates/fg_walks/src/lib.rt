@@ -4,8 +4,8 @@
 //! the least weight of a walk to it. What that means is said over walks alone, in `Walks`.
 #![tactic(auto)]
 
-mod bfs;
-mod sssp;
+mod least_walks;
+#[cfg(test)]
+mod tests;
 
-pub use bfs::Bfs;
-pub use sssp::Sssp;
+pub use least_walks::{Bfs, LeastWalks, Sssp};

@@ -2,6 +2,7 @@
 
 ghost use Rattle.std.specs.Prelude.{◌≡◌, ◌<◌, ◌≤◌, ◌∷◌, [], None, All, IfOk, IfSome, length};
 ghost use Rattle.std.specs.List.{Contains};
+ghost use Rattle.fg_base.specs.declared.limits.TheConstants.{PAGE_BYTES};
 ghost use Rattle.fg_cache.specs.Pass.{IsPassOf, IsPinOf};
 ghost use Rattle.fg_cache.specs.Site.{IsShape, asked_pages};
 
@@ -149,7 +150,7 @@ fn with_two(alloc: Global, ways: u32, depth: u32) -> Result<(Cache<MemDrive>, Pa
 }
 
 fn head(bytes: &[u8]) -> [u8; 8]
-    requires { length bytes.now ≡ 4096 }
+    requires { length bytes.now ≡ PAGE_BYTES }
 {
     [
         bytes[0], bytes[1], bytes[2], bytes[3], bytes[4], bytes[5], bytes[6], bytes[7],

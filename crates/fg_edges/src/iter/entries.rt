@@ -31,11 +31,12 @@ impl<'a> Model for Entries<'a> {
 
 impl<'a> Entries<'a> {
     ghost use Rattle.std.specs.Prelude.{◌≤◌, length};
+    ghost use Rattle.fg_base.specs.declared.limits.TheConstants.{PAGE_BYTES};
     ghost use Rattle.fg_edges.specs.Segment.{IsInside, segment_entries};
 
     /// The entries of this segment of the page.
     pub(crate) fn of_segment(bytes: &'a [u8], segment: Segment, weighted: bool) -> Entries<'a>
-        requires page { length bytes.now ≡ 4096 }
+        requires page { length bytes.now ≡ PAGE_BYTES }
         requires inside { IsInside weighted segment }
         ensures { result ≡ segment_entries weighted bytes.now segment }
     {

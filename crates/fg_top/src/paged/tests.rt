@@ -4,11 +4,11 @@
 ghost use Rattle.std.specs.Prelude.{◌≤◌};
 
 use super::{Paged, run_paged};
-use crate::tests::DIAMOND;
 use byteorder::{ByteOrder, LittleEndian};
 use fg_base::limits::{MAX_DRIVES, MAX_IMAGE_PAGES, PAGE_BYTES};
 use fg_base::{BadEdge, Count, Dir};
 use fg_build::open;
+use fg_build::sample::{DIAMOND, Numbers};
 use fg_model::{End, Program, RunFault, VecWatch};
 use fg_outside::{Drive, DriveOp, MemDrive};
 use fg_stripe::Label;
@@ -20,7 +20,7 @@ use std::test::Fail;
 /// An image: its pages, and its numbers of 4 bytes that aren't 0, each with its place.
 struct Form {
     pages: usize,
-    numbers: &'static [(usize, u32)],
+    numbers: Numbers,
 }
 
 /// Five vertices: the out-lists 1 2, 3, 3, 4 on page 1, the in-lists 0, 0, 1 2, 3 on page 2.
