@@ -7,13 +7,16 @@ from samples import G1_DRIVE, G1_EDGES
 from texts import edges_of, text_of_edges
 from transcripts import TOP, Call, Row
 
-PAGES = ('README.md', 'docs/command-line.md')
+PAGES = ('README.md', 'docs/command-line.md', 'docs/in-and-out.md')
 
 FILES = {
     'D0': G1_DRIVE,
     'edges.txt': text_of_edges(G1_EDGES),
-    **{f'examples/{path.name}': path.read_bytes() for path in (TOP / 'examples').glob('*.txt')},
+    **{f'examples/{path.name}': path.read_bytes() for path in (TOP / 'examples').iterdir()},
 }
+
+# what a line leaves that names this file
+NAMES = {'names.txt': b'anna\nben\ncarl\ndora\ned\n'}
 
 STATUSES = {
     'words ': 2, 'input failed': 3, r'drive \d+ failed': 5, 'line ': 6, r'drive \d+ (not empty|label differs)': 7,
@@ -29,9 +32,9 @@ def status_of(text):
 
 
 def built_by(line):
-    """The drives that a line leaves which builds from one of the files."""
+    """The drives that a line leaves which builds from one of the files, or through a pipe from the edges of the small graph."""
     words = iter(shlex.split(line)[2:])
-    undirected, given, drives = False, {'--unit': '16', '--number': '0'}, []
+    undirected, given, drives = False, {'--unit': '16', '--number': '0', '--input': 'edges.txt'}, []
     for word in words:
         if word == '--undirected':
             undirected = True
@@ -39,7 +42,7 @@ def built_by(line):
             given[word] = next(words)
         else:
             drives.append(word)
-    image = image_of(edges_of(FILES[given['--input']], undirected))
+    image = image_of(edges_of(FILES.get(given['--input'], FILES['edges.txt']), undirected))
     held = drives_of(image, len(drives), int(given['--unit']), int(given['--number']))
     return dict(zip(drives, held.values()))
 
@@ -47,7 +50,9 @@ def built_by(line):
 def call_of(transcript):
     """The call of one line that begins with `$`, with what stands below it."""
     line, _, text = transcript.partition('\n')
-    leaves = built_by(THEN.split(line)[0]) if text.startswith('built') else {}
+    parts = THEN.split(line)
+    leaves = built_by(next(part for part in parts if part.startswith('./fg build'))) if text.startswith('built') else {}
+    leaves |= {name: held for name, held in NAMES.items() if name in line}
     if THEN.search(line) or not line.startswith('./fg'):
         return Call(line, text, status_of(text), shell=True, leaves=leaves)
     return Call(line.removeprefix('./fg').strip(), text, status_of(text), leaves=leaves)

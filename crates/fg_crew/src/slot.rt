@@ -2,8 +2,8 @@
 
 ghost use Rattle.std.specs.Prelude.{◌≡◌};
 
-use fg_task::{BlockResult, WorkFault};
 use fg_steal::Seat;
+use fg_task::{BlockResult, WorkFault};
 
 /// What a worker has in one wave: its seat at the claims, the results of what it drew, and how it ended.
 #[derive(Drop)]

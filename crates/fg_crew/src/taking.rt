@@ -7,8 +7,8 @@ ghost use Rattle.fg_task.specs.declared.block_result.WorkFault.{WorkFault};
 ghost use Rattle.fg_crew.specs.Slots.{FaultHasCause, HasEndedWell, results_at, seat_at};
 
 use crate::slot::{Desk, Slot};
-use fg_task::{BlockResult, RunsBlock, WorkFault};
 use fg_steal::Seat;
+use fg_task::{BlockResult, RunsBlock, WorkFault};
 
 /// Takes the seats and the results of all slots in order, up to the first worker that failed.
 pub(crate) fn take_back<K, B: RunsBlock<K>>(

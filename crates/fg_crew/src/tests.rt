@@ -4,8 +4,8 @@ ghost use Rattle.std.specs.Prelude.{◌≡◌, ℕ, ◌<◌, ◌≤◌, All, IfO
 ghost use Rattle.fg_base.specs.declared.limits.TheConstants.{MAX_VERTICES, MAX_WORKERS};
 
 use crate::{Slot, work_wave};
-use fg_task::{BlockResult, RunsBlock, WorkFault};
 use fg_part::PartMap;
+use fg_task::{BlockResult, RunsBlock, WorkFault};
 use std::alloc::{AllocError, Global};
 use std::sync::Wait;
 use std::test::Fail;

@@ -11,8 +11,8 @@ ghost use Rattle.fg_part.specs.PartMap.{block_total};
 ghost use Rattle.fg_steal.specs.Seat.{WasToldOfAll, fresh_seat};
 
 use crate::slot::{Desk, Slot};
-use fg_task::{BlockResult, RunsBlock, WorkFault};
 use fg_steal::{Claims, Seat};
+use fg_task::{BlockResult, RunsBlock, WorkFault};
 use std::alloc::Global;
 use std::sync::Wait;
 
