@@ -1,0 +1,4 @@
+pub mod CuttingLaws
+pub mod TellingLaws
+pub mod WavesLaws
+pub mod WaveLaws
