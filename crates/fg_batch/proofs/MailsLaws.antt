@@ -1,8 +1,10 @@
 -- Words and the numbers beside them, put together.
-use Rattle.std.proofs.Common.{◌≡◌, ℕ, suc, ◌+◌, ◌<◌, Bool, true, false, cond, List, [], ◌∷◌, ◌++◌, length, refl, sym, ap, ◌∙◌, arith, append-nil}
+use Rattle.std.proofs.Common.{◌≡◌, ℕ, suc, ◌+◌, ◌^◌, ◌<◌, Bool, true, false, cond, List, [], ◌∷◌, ◌++◌, length, refl, sym, ap, ◌∙◌, arith, append-nil}
 use Rattle.std.proofs.lemmas.List.Sums.{sum_by-append}
 use Rattle.std.proofs.lemmas.Bool.{ne_eqb}
-use Rattle.fg_batch.specs.Mails.{beside_in, is_beside, unpacked, wide_behind}
+use Rattle.std.proofs.lemmas.List.Elements.{All-cons, All-drop, All-head, All-nil, All-tail}
+use Rattle.std.specs.Prelude.{All, slice_index}
+use Rattle.fg_batch.specs.Mails.{ArePacked, NumbersFit, beside_in, is_beside, number_in, unpacked, wide_behind}
 use Rattle.fg_model.specs.declared.mail.Mail.{Mail}
 
 abbrev one_if : Bool → ℕ
@@ -63,3 +65,39 @@ pub unpacked-wide : (words : List Mail) (wide : List ℕ) (target message : ℕ)
     → unpacked (words ++ mail_of target 1099511627775 ∷ []) (wide ++ message ∷ []) ≡ unpacked words wide ++ mail_of target message ∷ []
 unfolding unpacked
 unpacked-wide words wide target message fits = unpacked-append words (mail_of target 1099511627775 ∷ []) wide (message ∷ []) fits
+
+-- numbers of 64 bits
+abbrev Fits64 : ℕ → Type 0
+Fits64 number = number < 2 ^ 64
+
+abbrev MailFits : Mail → Type 0
+MailFits mail = mail.message < 2 ^ 64
+
+first-fits : (wide : List ℕ) → All Fits64 wide → slice_index wide 0 < 2 ^ 64
+first-fits [] fits = omega arith
+first-fits (x ∷ wide) fits = All-head Fits64 x wide fits
+
+number-fits : (word : Mail) (wide : List ℕ) → word.message < 2 ^ 64 → All Fits64 wide → number_in word wide < 2 ^ 64
+number-fits word wide small large = by_case (is_beside word) refl
+  where
+    by_case : (b : Bool) → is_beside word ≡ b → number_in word wide < 2 ^ 64
+    by_case true is = rw is (first-fits wide large)
+    by_case false is = rw is small
+
+behind-fits : (word : Mail) (wide : List ℕ) → All Fits64 wide → All Fits64 (wide_behind word wide)
+behind-fits word wide large = by_case (is_beside word) refl
+  where
+    by_case : (b : Bool) → is_beside word ≡ b → All Fits64 (wide_behind word wide)
+    by_case true is = rw is (All-drop Fits64 1 wide large)
+    by_case false is = rw is large
+
+numbers-fit : (words : List Mail) (wide : List ℕ) → NumbersFit words → All Fits64 wide → NumbersFit (unpacked words wide)
+unfolding unpacked
+numbers-fit [] wide small large = All-nil MailFits
+numbers-fit (word ∷ words) wide small large =
+    All-cons MailFits (record { target = word.target; message = number_in word wide }) (unpacked words (wide_behind word wide))
+    (number-fits word wide (All-head MailFits word words small) large)
+    (numbers-fit words (wide_behind word wide) (All-tail MailFits word words small) (behind-fits word wide large))
+
+pub packed-fit : (words : List Mail) (wide : List ℕ) → ArePacked words wide → NumbersFit (unpacked words wide)
+packed-fit words wide packed = numbers-fit words wide packed.small packed.large

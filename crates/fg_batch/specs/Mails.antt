@@ -1,5 +1,5 @@
 -- Messages as words of 8 bytes, with the numbers that don't fit beside them, in the order of their words.
-use Rattle.std.specs.Prelude.{ℕ, ◌==◌, Bool, List, [], ◌∷◌, drop, slice_index, if◌then◌else◌}
+use Rattle.std.specs.Prelude.{◌≡◌, ℕ, ◌^◌, ◌<◌, ◌==◌, Bool, List, [], ◌∷◌, All, drop, length, slice_index, if◌then◌else◌}
 use Rattle.std.specs.List.{count_by}
 use Rattle.fg_model.specs.declared.mail.Mail.{Mail}
 
@@ -28,3 +28,13 @@ wide_behind word wide = if is_beside word then drop 1 wide else wide
 unfoldable pub unpacked : List Mail → List ℕ → List Mail
 unpacked [] wide = []
 unpacked (word ∷ words) wide = record { target = word.target; message = number_in word wide } ∷ unpacked words (wide_behind word wide)
+
+-- all numbers are of 64 bits
+abbrev pub NumbersFit : List Mail → Type 0
+NumbersFit mails = All (λ (mail : Mail). mail.message < 2 ^ 64) mails
+
+-- as many numbers are left beside as words say so, and all numbers are of 64 bits
+pub record ArePacked (words : List Mail) (wide : List ℕ) : Type 0 where
+  pub beside : beside_in words ≡ length wide
+  pub small : NumbersFit words
+  pub large : All (λ number. number < 2 ^ 64) wide

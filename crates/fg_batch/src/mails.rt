@@ -1,7 +1,7 @@
 //! Messages in a row.
 
 ghost use Rattle.std.specs.Prelude.{◌≡◌, ◌+◌, ◌<◌, ◌≤◌, ◌^◌, ◌++◌, ◌∷◌, [], ◌==◌, IfOk, OnOk, length};
-ghost use Rattle.fg_batch.specs.Mails.{beside_in, number_in, wide_behind};
+ghost use Rattle.fg_batch.specs.Mails.{NumbersFit, beside_in, number_in, wide_behind};
 
 use crate::word::{BESIDE, Word};
 use fg_base::Memory;
@@ -18,9 +18,9 @@ pub struct Mails {
 }
 
 impl Model for Mails {
-    ghost use Rattle.std.specs.Prelude.{◌≡◌, ◌-◌, length, min};
+    ghost use Rattle.std.specs.Prelude.{◌-◌, min};
     ghost use Rattle.std.specs.Vec.{vec_capacity, vec_len};
-    ghost use Rattle.fg_batch.specs.Mails.{MailList, beside_in, unpacked};
+    ghost use Rattle.fg_batch.specs.Mails.{ArePacked, MailList, unpacked};
 
     ghost Value = { MailList };
 
@@ -29,7 +29,7 @@ impl Model for Mails {
       room = min (vec_capacity inside.words - vec_len inside.words) (vec_capacity inside.wide - vec_len inside.wide);
     } };
 
-    ghost invariant = { λ inside. beside_in inside.words.items ≡ length inside.wide.items };
+    ghost invariant = { λ inside. ArePacked inside.words.items inside.wide.items };
 }
 
 impl Mails {
@@ -108,6 +108,13 @@ impl Mails {
         let mut wide = Vec::with_capacity(alloc, self.wide.len())?;
         wide.extend_from_slice(&self.wide)?;
         Ok(Mails { words, wide })
+    }
+
+    /// All numbers are of 64 bits. A call does nothing when it runs; it gives its caller this law.
+    pub fn numbers_fit(&self)
+        ensures { NumbersFit self.now.items }
+    {
+        let _words = &self.words;
     }
 
     /// The messages in order.

@@ -1,5 +1,5 @@
 -- What came to the vertices of a graph, part by part.
-use Rattle.std.specs.Prelude.{◌≡◌, ℕ, ◌^◌, ◌<◌, Option, List, [], All, IfSome, fold, length, map as each, slice_index_or}
+use Rattle.std.specs.Prelude.{◌≡◌, ℕ, ◌^◌, ◌<◌, ◌++◌, Option, List, [], All, IfSome, fold, length, map as each, slice_index_or}
 use Rattle.fg_base.specs.declared.plain.VState.{VState}
 use Rattle.fg_batch.specs.Inbox.{AreEmpty, AreOpen, Holding, held_at, received}
 use Rattle.fg_model.specs.declared.mail.Mail.{Mail}
@@ -27,6 +27,10 @@ pub record HasCome (P : Rules) (map : PartMap) (parts : List (List (Option ℕ))
   pub all_fit : AreFit mail
   pub number_fits : (v : ℕ) → v < map.n → IfSome (came_to map parts v) (λ (number : ℕ). number < 2 ^ 64)
   pub folds : (v : ℕ) (s : VState) → v < map.n → IsInRange s → received P (came_to map parts v) s ≡ fold P.receive s (sent_to v mail)
+
+-- with these messages more, whatever came before
+abbrev pub Brings : Rules → PartMap → List Mail → List (List (Option ℕ)) → List (List (Option ℕ)) → Type 0
+Brings P map more old new = (before : List Mail) → AreFit more → HasCome P map old before → HasCome P map new (before ++ more)
 
 -- the inbox of a part
 pub record IsInboxOf {P : Type 0} (program : P) (map : PartMap) (part : ℕ) (inbox : Holding P) : Type 0 where

@@ -1,14 +1,13 @@
 //! What came to all parts.
 
-ghost use Rattle.std.specs.Prelude.{◌≡◌, ℕ, ◌+◌, ◌*◌, ◌<◌, ◌≤◌, ◌++◌, false, [], None, List, All, IfOk, length, slice_index_or};
+ghost use Rattle.std.specs.Prelude.{◌≡◌, ℕ, ◌+◌, ◌*◌, ◌<◌, ◌≤◌, false, [], None, All, IfOk, length, slice_index_or};
 ghost use Rattle.fg_batch.specs.Outbox.{IsForItsPart, mail_in};
-ghost use Rattle.fg_gather.specs.Arrivals.{AreFit, AreInboxes, HasCome, HasNone, IsEmptied, came_to};
+ghost use Rattle.fg_gather.specs.Arrivals.{AreInboxes, Brings, HasCome, HasNone, IsEmptied, came_to};
 ghost use Rattle.fg_batch.specs.Inbox.{Holding};
 ghost use Rattle.fg_model.specs.Program.{IsLawful};
 ghost use Rattle.fg_gather.specs.Deliver.{batches_in};
 ghost use Rattle.fg_gather.specs.Gather.{IsIterated};
 ghost use Rattle.fg_gather.specs.Marks.{AreMarks};
-ghost use Rattle.fg_model.specs.declared.mail.Mail.{Mail as MailIn};
 ghost use Rattle.fg_model.specs.Iteration.{AreStates};
 ghost use Rattle.fg_part.specs.PartMap.{StandsIn, block_size, block_total};
 
@@ -105,8 +104,7 @@ impl<'a, P: Program + Sync> Inboxes<'a, P> {
         requires fit { All (IsForItsPart self.old.map) (batches_in wave.now) }
         ensures program { self.new.program ≡ self.old.program }
         ensures map { self.new.map ≡ self.old.map }
-        ensures came { (before : List MailIn) → AreFit (mail_in (batches_in wave.now)) → HasCome (P.rules self.old.program) self.old.map self.old.parts before
-            → HasCome (P.rules self.old.program) self.old.map self.new.parts (before ++ mail_in (batches_in wave.now)) }
+        ensures came { Brings (P.rules self.old.program) self.old.map (mail_in (batches_in wave.now)) self.old.parts self.new.parts }
     {
         know_law(self.program);
         deliver_all(rt, self.map, wave, threads, &mut self.boxes);

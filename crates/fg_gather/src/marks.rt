@@ -1,13 +1,8 @@
 //! Marks of blocks.
 
-ghost use Rattle.std.specs.Prelude.{◌≡◌, ℕ, ◌<◌, length, List};
+ghost use Rattle.std.specs.Prelude.{◌≡◌, ℕ, ◌<◌, length};
 ghost use Rattle.std.specs.List.{list_any};
-ghost use Rattle.fg_base.specs.declared.plain.VState.{VState as State};
-ghost use Rattle.fg_gather.specs.Gather.{KeepsOthers};
-ghost use Rattle.fg_gather.specs.Marks.{AreMarks, IsMark};
-ghost use Rattle.fg_model.specs.Program.{Rules};
-ghost use Rattle.fg_model.specs.Run.{is_some_active};
-ghost use Rattle.fg_part.specs.declared.part_map.PartMap.{PartMap as Map};
+ghost use Rattle.fg_gather.specs.Marks.{AreMadeAgain, AreMarks, IsMadeAgain, IsMark, TellsActive};
 ghost use Rattle.fg_part.specs.PartMap.{block_total};
 
 use crate::inboxes::Inboxes;
@@ -56,9 +51,7 @@ pub fn mark_again<P: Program + Sync, R: Threads + Sync>(
     requires states { length states.now ≡ inboxes.now.map.n }
     requires marks { length marks.old ≡ block_total inboxes.now.map }
     ensures count { length marks.new ≡ length marks.old }
-    ensures again { (old : List State) → AreMarks (P.rules inboxes.now.program) inboxes.now.map phase old marks.old
-        → KeepsOthers (P.rules inboxes.now.program) inboxes.now.map phase inboxes.now.parts old states.now
-        → AreMarks (P.rules inboxes.now.program) inboxes.now.map phase states.now marks.new }
+    ensures again { AreMadeAgain (P.rules inboxes.now.program) inboxes.now phase states.now marks.old marks.new }
 {
     thread::for_each_mut(
         rt,
@@ -66,17 +59,15 @@ pub fn mark_again<P: Program + Sync, R: Threads + Sync>(
         threads,
         &|block: usize, mark: &mut bool|
             requires { (length states.now ≡ inboxes.now.map.n) × (block < block_total inboxes.now.map) }
-            ensures { (old : List State) → IsMark (P.rules inboxes.entry.now.program) inboxes.entry.now.map phase old block mark.entry.now
-                → KeepsOthers (P.rules inboxes.entry.now.program) inboxes.entry.now.map phase inboxes.entry.now.parts old states.entry.now
-                → IsMark (P.rules inboxes.entry.now.program) inboxes.entry.now.map phase states.entry.now block mark.exit.now }
+            ensures { IsMadeAgain (P.rules inboxes.entry.now.program) inboxes.entry.now phase states.entry.now block
+                mark.entry.now mark.exit.now }
         { mark_one(inboxes, phase, states, block as u32, mark) },
     );
 }
 
 /// Whether a block has a mark: whether a vertex is active.
 pub fn any_marked(marks: &[bool]) -> bool
-    ensures { (P : Rules) (map : Map) (phase : ℕ) (states : List State) → length states ≡ map.n → AreMarks P map phase states marks.now
-        → result ≡ is_some_active P phase states }
+    ensures { TellsActive marks.now result }
 {
     some_set(marks)
 }
@@ -98,9 +89,7 @@ fn mark_one<P: Program>(
 )
     requires states { length states.now ≡ inboxes.now.map.n }
     requires block { block < block_total inboxes.now.map }
-    ensures { (old : List State) → IsMark (P.rules inboxes.now.program) inboxes.now.map phase old block mark.old
-        → KeepsOthers (P.rules inboxes.now.program) inboxes.now.map phase inboxes.now.parts old states.now
-        → IsMark (P.rules inboxes.now.program) inboxes.now.map phase states.now block mark.new }
+    ensures { IsMadeAgain (P.rules inboxes.now.program) inboxes.now phase states.now block mark.old mark.new }
 {
     if *mark || inboxes.has_mail(block) {
         *mark = has_awake(inboxes.program(), inboxes.map(), phase, states, block);

@@ -1,21 +1,27 @@
 -- The answers of one iteration and of a run, case by case.
-use Rattle.std.specs.Prelude.{◌≡◌, ℕ, ◌+◌, ◌-◌, ◌≤◌, Bool, true, Option, Result, Ok, Err, List, length, sum_by, take}
+use Rattle.std.specs.Prelude.{◌≡◌, ℕ, ◌+◌, ◌-◌, ◌≤◌, Bool, true, Option, Result, Ok, Err, IfErr, List, Contains, length, sum_by, take}
 use Rattle.fg_base.specs.declared.plain.BadEdge.{BadEdge}
 use Rattle.fg_base.specs.declared.plain.VState.{VState}
 use Rattle.fg_base.specs.Faults.{Rose}
+use Rattle.fg_model.specs.declared.graph.Graph.{Graph}
 use Rattle.fg_model.specs.declared.iteration.Counts.{Counts}
 use Rattle.fg_model.specs.declared.iteration.IterFault.{IterFault}
 use Rattle.fg_model.specs.declared.iteration.Iteration.{Iteration}
 use Rattle.fg_model.specs.declared.run.End.{End}
 use Rattle.fg_model.specs.declared.run.RunFault.{RunFault}
 use Rattle.fg_model.specs.declared.watch.IterLine.{IterLine}
-use Rattle.fg_model.specs.Iteration.{Begun}
-use Rattle.fg_model.specs.Run.{Finished, Run, answer_of, entries_of, runs_of}
+use Rattle.fg_model.specs.Iteration.{Begun, IsIteration}
+use Rattle.fg_model.specs.Program.{Rules}
+use Rattle.fg_model.specs.Run.{Finished, Run, answer_of, begun_of, entries_of, run, runs_of}
 use Rattle.fg_model.specs.Watch.{ShownAll, ShownPart, ShownSome}
 
 -- a finished iteration, from the states after it and its counts
 abbrev pub iteration_of : List VState → Counts → Iteration
 iteration_of states counts = record { states = states; active = counts.active; messages = counts.messages }
+
+-- the iteration of this phase from the old states came to the new ones with these counts
+abbrev pub HasIterated : Rules → Graph → ℕ → List VState → List VState → Counts → Type 0
+HasIterated P graph phase old new counts = IsIteration P graph phase old (iteration_of new counts)
 
 -- the counts are those of the iteration that began
 pub record HasCounted (counts : Counts) (begun : Begun) : Type 0 where
@@ -32,6 +38,10 @@ abbrev pub MatchIterFault : IterFault → Type 0 → (ℕ → Type 0) → (BadEd
 MatchIterFault IterFault.Memory on_memory on_drive on_bad_edge = on_memory
 MatchIterFault (IterFault.Drive drive) on_memory on_drive on_bad_edge = on_drive drive
 MatchIterFault (IterFault.BadEdge bad) on_memory on_drive on_bad_edge = on_bad_edge bad
+
+-- a fact of the bad edge, where the answer is one
+abbrev pub IfBadEdge : {A : Type 0} → Result A IterFault → (BadEdge → Type 0) → Type 0
+IfBadEdge answer fact = IfErr answer (λ fault. MatchIterFault fault (Unit {0}) (λ drive. Unit {0}) fact)
 
 -- a fact for each fault of a run
 abbrev pub MatchRunFault : RunFault → Type 0 → (ℕ → Type 0) → (BadEdge → Type 0) → Type 0 → Type 0
@@ -99,3 +109,22 @@ pub record Went (has_read tally_rose : List Begun → Type 0) (knows : Bool) (an
   pub was_counted : tally_rose begun
   pub are_first : knows ≡ true → IsFirstOf begun all
   pub are_all : knows ≡ true → IsWhole answer → begun ≡ all
+
+-- the iterations that begin in the run of a program on a graph, at most so many
+abbrev pub begun_in : Rules → Graph → ℕ → List Begun
+begun_in P graph max = begun_of (run P graph max)
+
+-- a fact of each iteration that may begin: of those of the run where the graph is told, of all where it isn't
+abbrev pub OfEachBegun : Bool → List Begun → (Begun → Type 0) → Type 0
+OfEachBegun knows all fact = (begun : Begun) → (knows ≡ true → Contains all begun) → fact begun
+
+-- how far an engine went with a run, by what it did from one value of it to the next
+abbrev pub EngineWent : {E : Type 0} → (E → E → Rules → List Begun → Type 0) → (E → Bool) → (E → Graph) → E → E → Rules → ℕ
+    → (List Begun → Type 0) → Result End RunFault → Type 0
+EngineWent did knows graph old new P max tally_rose answer =
+    Went (did old new P) tally_rose (knows old) answer (begun_in P (graph old) max)
+
+-- what a watch was shown of the finished iterations, from one value of it to the next
+abbrev pub WatchShown : {N W : Type 0} → Result End RunFault → (W → IterLine → List VState → List N) → (W → Option (List N))
+    → W → W → List Finished → Type 0
+WatchShown answer told notes old new finished = ShownAs answer (told old) finished (notes old) (notes new)

@@ -3,8 +3,8 @@
 ghost use Rattle.std.specs.Prelude.{◌≡◌, ℕ, ◌+◌, ◌<◌, ◌≤◌, ◌^◌, Bool, true, Some, List, [], ◌∷◌, ◌++◌, OnErr, OnOk, IfOk, IfErr, length};
 ghost use Rattle.fg_base.specs.declared.plain.VState.{VState};
 ghost use Rattle.fg_model.specs.declared.graph.Graph.{Graph};
-ghost use Rattle.fg_model.specs.Engine.{HasCounted, MatchIterFault, RoseUpTo, iteration_of};
-ghost use Rattle.fg_model.specs.Iteration.{AreStates, Begun, IsIteration, begun_at, first_bad};
+ghost use Rattle.fg_model.specs.Engine.{HasCounted, HasIterated, IfBadEdge, MatchIterFault, RoseUpTo};
+ghost use Rattle.fg_model.specs.Iteration.{AreStates, Begun, begun_at, first_bad};
 ghost use Rattle.fg_model.specs.Program.{Rules};
 ghost use Rattle.fg_model.specs.Run.{is_some_active};
 
@@ -90,8 +90,8 @@ pub trait Engine<P: Program, T: Tally> {
         ensures few_entries { RoseUpTo (begun_at (P.rules program.now) (graph self.old) phase (states_of self.old)).messages
             (T.entries tally.old) (T.entries tally.new) }
         // of a finished iteration
-        ensures ok { IfOk result (λ counts. knows self.old ≡ true → IsIteration (P.rules program.now) (graph self.old) phase
-            (states_of self.old) (iteration_of (states_of self.new) counts)) }
+        ensures ok { IfOk result (λ counts. knows self.old ≡ true → HasIterated (P.rules program.now) (graph self.old) phase
+            (states_of self.old) (states_of self.new) counts) }
         ensures ok_states { OnOk result (AreStates (graph self.old).n (states_of self.new)) }
         ensures ok_counts { IfOk result (λ counts. HasCounted counts
             (begun_at (P.rules program.now) (graph self.old) phase (states_of self.old))) }
@@ -106,9 +106,8 @@ pub trait Engine<P: Program, T: Tally> {
             (kept self.old self.new)
             (λ drive. failed self.old self.new drive)
             (λ bad. kept self.old self.new)) }
-        ensures bad_edge { IfErr result (λ fault. MatchIterFault fault (Unit {0}) (λ drive. Unit {0})
-            (λ bad. knows self.old ≡ true →
-            first_bad (P.rules program.now) (graph self.old) phase (states_of self.old) ≡ Some bad)) };
+        ensures bad_edge { IfBadEdge result (λ bad. knows self.old ≡ true →
+            first_bad (P.rules program.now) (graph self.old) phase (states_of self.old) ≡ Some bad) };
 
     ghost kept_none: { (engine : Self) → kept engine engine };
 

@@ -1,13 +1,13 @@
 //! A whole run, whatever runs its iterations.
 
-ghost use Rattle.std.specs.Prelude.{◌≡◌, ℕ, ◌+◌, ◌<◌, ◌≤◌, ◌^◌, true, List, Contains, IfOk, OnErr, OnOk};
+ghost use Rattle.std.specs.Prelude.{◌≡◌, ℕ, ◌+◌, ◌<◌, ◌≤◌, ◌^◌, true, List, IfOk, OnErr, OnOk};
 ghost use Rattle.fg_base.specs.Faults.{Counts as CountsFaults};
 ghost use Rattle.fg_base.specs.Told.{GrewByFirst, grown};
 ghost use Rattle.fg_model.specs.declared.run.RunFault.{RunFault};
-ghost use Rattle.fg_model.specs.Engine.{HasTallied, ShownAs, TallyRoseWith, TellsEnd, TellsFaults, Went, run_fault_of};
+ghost use Rattle.fg_model.specs.Engine.{EngineWent, HasTallied, OfEachBegun, TallyRoseWith, TellsEnd, TellsFaults, WatchShown, begun_in, run_fault_of};
 ghost use Rattle.fg_model.specs.Iteration.{AreStates, Begun};
 ghost use Rattle.fg_model.specs.Program.{Rules};
-ghost use Rattle.fg_model.specs.Run.{begun_of, last_end, opening_states, run};
+ghost use Rattle.fg_model.specs.Run.{last_end, opening_states, run};
 ghost use Rattle.fg_model.specs.Watch.{Grew, line_at};
 
 use crate::engine::Engine;
@@ -82,19 +82,16 @@ pub fn run_engine<P: Program, E: Engine<P, T>, W: Watch, T: Tally>(
     requires is_ready { E.ready engine.old (P.rules program.now) }
     requires opening { E.states_of engine.old ≡ opening_states (P.rules program.now) (E.graph engine.old) }
     requires are_states { AreStates (E.graph engine.old).n (E.states_of engine.old) }
-    requires is_allowed { (begun : Begun)
-        → (E.knows engine.old ≡ true → Contains (begun_of (run (P.rules program.now) (E.graph engine.old) max)) begun)
-        → E.allows engine.old (P.rules program.now) begun }
+    requires is_allowed { OfEachBegun (E.knows engine.old)
+        (begun_in (P.rules program.now) (E.graph engine.old) max) (E.allows engine.old (P.rules program.now)) }
     requires room_of_runs { T.runs tally.old + 2 ^ 57 ≤ 2 ^ 64 }
     requires room_of_entries { T.entries tally.old + 2 ^ 60 ≤ 2 ^ 64 }
     ensures stays_ready { E.ready engine.new (P.rules program.now) }
     ensures same_graph { E.graph engine.new ≡ E.graph engine.old }
     ensures same_knows { E.knows engine.new ≡ E.knows engine.old }
     ensures still_allows { (rules : Rules) (begun : Begun) → E.allows engine.old rules begun → E.allows engine.new rules begun }
-    ensures went { Went (E.did engine.old engine.new (P.rules program.now))
-        (TallyRoseWith T.runs T.entries tally.old tally.new)
-        (E.knows engine.old) result
-        (begun_of (run (P.rules program.now) (E.graph engine.old) max)) }
+    ensures went { EngineWent E.did E.knows E.graph engine.old engine.new (P.rules program.now) max
+        (TallyRoseWith T.runs T.entries tally.old tally.new) result }
     ensures same_told { W.told watch.new ≡ W.told watch.old }
     ensures same_borrows { W.same_borrows watch.old watch.new }
     ensures grew { Grew (W.notes watch.old) (W.notes watch.new) }
@@ -102,8 +99,8 @@ pub fn run_engine<P: Program, E: Engine<P, T>, W: Watch, T: Tally>(
     ensures faults { TellsFaults result (E.kept engine.old engine.new) (E.failed engine.old engine.new)
         (W.faults watch.old) (W.faults watch.new) }
     ensures answer { E.knows engine.old ≡ true → TellsEnd result (run (P.rules program.now) (E.graph engine.old) max) }
-    ensures shown { E.knows engine.old ≡ true → ShownAs result (W.told watch.old)
-        (run (P.rules program.now) (E.graph engine.old) max).finished (W.notes watch.old) (W.notes watch.new) }
+    ensures shown { E.knows engine.old ≡ true → WatchShown result W.told W.notes watch.old watch.new
+        (run (P.rules program.now) (E.graph engine.old) max).finished }
     // of a run with an end
     ensures ok_states { IfOk result (λ end. AreStates (E.graph engine.old).n end.states) }
     ensures ok_tally { OnOk result (E.knows engine.old ≡ true → HasTallied T.runs T.entries tally.old tally.new

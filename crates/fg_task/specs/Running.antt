@@ -6,12 +6,17 @@ use Rattle.fg_base.specs.declared.plain.BadEdge.{BadEdge}
 use Rattle.fg_batch.specs.Outbox.{HasRoom, Sending, Sends}
 use Rattle.fg_model.specs.declared.mail.Mail.{Mail}
 use Rattle.fg_task.specs.declared.job.Job.{Job}
+use Rattle.fg_task.specs.Book.{Book, jobs_of}
 use Rattle.fg_task.specs.Jobs.{IsJob, Work, edges_in, entry_count, messages_in}
 use Rattle.fg_task.specs.Least.{IsLeastBad}
 
 -- how many entries these jobs have
 abbrev pub entries_of : Work → List Job → ℕ
 entries_of work jobs = sum_by (entry_count work) jobs
+
+-- the entries that are left in a book
+abbrev pub entries_in : {F : Type 0} → (F → Work) → Book F → ℕ
+entries_in work book = entries_of (work book.function) (jobs_of book)
 
 -- what they send, one job after the other
 abbrev pub messages_of : Work → List ℕ → List Job → List Mail

@@ -52,3 +52,12 @@ pub record HasRoom (spent : Counted) (runs entries : ℕ) : Type 0 where
 pub record SpentUpTo (old new : Counted) (runs entries : ℕ) : Type 0 where
   pub few_runs : new.runs ≤ old.runs + runs
   pub few_entries : new.entries ≤ old.entries + entries
+
+-- no more than all blocks of the list ask for
+abbrev pub SpentOnList : Blocks → List ℕ → Counted → Counted → Type 0
+SpentOnList blocks list old new = SpentUpTo old new (sum_by blocks.active_of list) (sum_by blocks.needed_of list)
+
+-- and so much by all workers together
+pub record SpentInAllUpTo (blocks : Blocks) (list : List ℕ) (old new : List Counted) : Type 0 where
+  pub few_runs : sum_by (λ (spent : Counted). spent.runs) new ≤ sum_by (λ (spent : Counted). spent.runs) old + sum_by blocks.active_of list
+  pub few_entries : sum_by (λ (spent : Counted). spent.entries) new ≤ sum_by (λ (spent : Counted). spent.entries) old + sum_by blocks.needed_of list

@@ -6,7 +6,7 @@ ghost use Rattle.fg_batch.specs.Outbox.{HasRoom, Sends};
 ghost use Rattle.fg_task.specs.Book.{ArePagesOf, jobs_of, jobs_on, with_job, without_page};
 ghost use Rattle.fg_task.specs.Jobs.{IsJob, entry_count};
 ghost use Rattle.fg_task.specs.Least.{IsLeastBad};
-ghost use Rattle.fg_task.specs.Running.{edges_of, entries_of, messages_of};
+ghost use Rattle.fg_task.specs.Running.{edges_of, entries_in, entries_of, messages_of};
 
 use crate::counting::added;
 use crate::job::Job;
@@ -60,8 +60,7 @@ impl<F: SegmentRun> TaskBook<F> {
     pub fn add(&mut self, job: Job) -> Result<(), Memory>
         requires { IsJob (F.work self.old.function) job }
         ensures ok { OnOk result (self.new ≡ with_job job.dir job self.old) }
-        ensures more { OnOk result (entries_of (F.work self.new.function) (jobs_of self.new)
-            ≡ entries_of (F.work self.old.function) (jobs_of self.old) + entry_count (F.work self.old.function) job) }
+        ensures more { OnOk result (entries_in F.work self.new ≡ entries_in F.work self.old + entry_count (F.work self.old.function) job) }
         ensures err { OnErr result (self.new ≡ self.old) }
     {
         match job.dir {
@@ -87,7 +86,7 @@ impl<F: SegmentRun> TaskBook<F> {
         ensures sent { Sends outbox.old outbox.new [] }
         ensures ok { OnOk result (HasRoom (entries_of (F.work self.now.function) (jobs_on page self.now)) outbox.new) }
         ensures kept { (k : ℕ) → HasRoom k outbox.old → HasRoom k outbox.new }
-        ensures few { entries_of (F.work self.now.function) (jobs_on page self.now) ≤ entries_of (F.work self.now.function) (jobs_of self.now) }
+        ensures few { entries_of (F.work self.now.function) (jobs_on page self.now) ≤ entries_in F.work self.now }
     {
         let outs = self.outs.entries_on(&self.function, page)?;
         let ins = self.ins.entries_on(&self.function, page)?;
@@ -113,8 +112,7 @@ impl<F: SegmentRun> TaskBook<F> {
         ensures runs { T.runs tally.new ≡ T.runs tally.old }
         ensures entries { T.entries tally.new ≡ T.entries tally.old
             + length (messages_of (F.work self.old.function) bytes.now (jobs_on page self.old)) }
-        ensures fewer { T.entries tally.new + entries_of (F.work self.new.function) (jobs_of self.new)
-            ≤ T.entries tally.old + entries_of (F.work self.old.function) (jobs_of self.old) }
+        ensures fewer { T.entries tally.new + entries_in F.work self.new ≤ T.entries tally.old + entries_in F.work self.old }
         ensures bad { IsLeastBad (F.work self.old.function).n (edges_of (F.work self.old.function) bytes.now (jobs_on page self.old)) result }
     {
         let sent = sent_after::<F, Brand>(self, page, bytes);

@@ -5,7 +5,7 @@ ghost use Rattle.fg_base.specs.declared.limits.TheConstants.{PAGE_BYTES};
 ghost use Rattle.fg_batch.specs.Outbox.{IsForItsPart};
 ghost use Rattle.fg_edges.specs.Segment.{IsSegment, count_of};
 ghost use Rattle.fg_task.specs.Book.{jobs_of};
-ghost use Rattle.fg_task.specs.Running.{entries_of};
+ghost use Rattle.fg_task.specs.Running.{entries_in};
 
 use crate::*;
 use fg_base::{BadEdge, Count, Dir, Memory, VState};
@@ -43,8 +43,7 @@ fn add_job<F: SegmentRun>(
     requires inside { IsSegment false segment }
     requires few { count_of false segment ≤ 1024 }
     ensures function { book.new.function ≡ book.old.function }
-    ensures more { OnOk result (entries_of (F.work book.new.function) (jobs_of book.new)
-        ≤ entries_of (F.work book.old.function) (jobs_of book.old) + 1024) }
+    ensures more { OnOk result (entries_in F.work book.new ≤ entries_in F.work book.old + 1024) }
 {
     book.add(Job {
         vertex,
@@ -64,10 +63,10 @@ fn run_page<F: SegmentRun>(
 ) -> Result<(Option<BadEdge>, u64), Memory>
     requires page { length bytes.now ≡ PAGE_BYTES }
     requires vertices { outbox.old.map.n ≡ (F.work book.old.function).n }
-    requires few { entries_of (F.work book.old.function) (jobs_of book.old) < 2 ^ 64 }
+    requires few { entries_in F.work book.old < 2 ^ 64 }
     ensures function { book.new.function ≡ book.old.function }
     ensures map { outbox.new.map ≡ outbox.old.map }
-    ensures fewer { entries_of (F.work book.new.function) (jobs_of book.new) ≤ entries_of (F.work book.old.function) (jobs_of book.old) }
+    ensures fewer { entries_in F.work book.new ≤ entries_in F.work book.old }
 {
     let mut tally = Count::new();
     book.make_room(page, outbox)?;
@@ -92,7 +91,7 @@ fn fill_book<F: SegmentRun>(book: &mut TaskBook<F>) -> Result<(), Memory>
     requires weights { (F.work book.old.function).weighted ≡ false }
     requires none { jobs_of book.old ≡ [] }
     ensures function { book.new.function ≡ book.old.function }
-    ensures few { OnOk result (entries_of (F.work book.new.function) (jobs_of book.new) < 2 ^ 64) }
+    ensures few { OnOk result (entries_in F.work book.new < 2 ^ 64) }
 {
     add_job(book, 0, Dir::Out, 0, segment_on(1, 0, 2))?;
     add_job(book, 0, Dir::In, 0, segment_on(2, 0, 1))?;
@@ -117,7 +116,7 @@ fn run_pages<F: SegmentRun>(
     outbox: &mut Outbox,
 ) -> Result<[(Option<BadEdge>, u64); 3], Memory>
     requires vertices { outbox.old.map.n ≡ (F.work book.old.function).n }
-    requires few { entries_of (F.work book.old.function) (jobs_of book.old) < 2 ^ 64 }
+    requires few { entries_in F.work book.old < 2 ^ 64 }
     ensures map { outbox.new.map ≡ outbox.old.map }
 {
     let first = page_with(&[(0, 1), (1, 2), (2, 2), (3, 9)]);
