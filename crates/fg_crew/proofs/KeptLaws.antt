@@ -4,7 +4,7 @@ use Rattle.std.proofs.lemmas.List.{get_or-map, length-map}
 use Rattle.std.specs.Prelude.{All}
 use Rattle.fg_task.specs.Spending.{Counted}
 use Rattle.fg_crew.specs.declared.slot.Slot.{Slot}
-use Rattle.fg_crew.specs.Claimed.{HasRoomFor, Plan, SpentWithinAll}
+use Rattle.fg_crew.specs.Claimed.{HasRoomFor, Plan}
 use Rattle.fg_crew.specs.Slots.{AllHaveWorked, Has, HasEnded, IsFresh, IsReady}
 use Rattle.fg_steal.specs.Claims.{ClaimsValue}
 
@@ -39,6 +39,5 @@ module _ (plan : Plan) (claims : ClaimsValue) {K F : Type 0} (lends : K → Type
         record {
           desk = subst (λ (kept : K). Has (HasEnded plan claims caused (spent kept) (spent now.kept)) now.desk) is worked.desk;
           lent = worked.lent;
-          few = subst (λ (kept : K). SpentWithinAll plan (spent kept) (spent now.kept)) is worked.few;
         };
   }

@@ -8,3 +8,4 @@ pub mod WaveLaws
 pub mod TellingLaws
 pub mod KeptLaws
 pub mod SlotLaws
+pub mod BackLaws

@@ -1,6 +1,6 @@
 -- The slots of all workers after a wave.
-use Rattle.std.proofs.Common.{◌≡◌, ℕ, suc, ◌<◌, None, Some, Option, Ok, List, [], ◌∷◌, ◌++◌, length, map, get_or, refl, sym, ap, ap₂, ◌∙◌, subst, arith}
-use Rattle.std.proofs.lemmas.List.{append-nil, length-append, map-append}
+use Rattle.std.proofs.Common.{◌≡◌, ℕ, suc, ◌<◌, None, Some, Option, Ok, List, [], ◌∷◌, ◌++◌, length, map, refl, sym, ap, ap₂, ◌∙◌, subst, arith}
+use Rattle.std.proofs.lemmas.List.{append-nil, map-append}
 use Rattle.std.proofs.lemmas.Grind.{flat_map-append}
 use Rattle.std.proofs.lemmas.Simd.{map-map}
 use Rattle.std.proofs.lemmas.List.Elements.{All-append, All-cons, All-head, All-nil, All-tail}
@@ -11,7 +11,7 @@ use Rattle.fg_task.specs.declared.block_result.BlockResult.{BlockResult}
 use Rattle.fg_crew.specs.declared.slot.Desk.{Desk}
 use Rattle.fg_crew.specs.declared.slot.Slot.{Slot}
 use Rattle.fg_task.specs.Blocks.{IsResult}
-use Rattle.fg_crew.specs.Claimed.{IsDealt, Plan, SpentWithinAll, block_drawn}
+use Rattle.fg_crew.specs.Claimed.{IsDealt, Plan, block_drawn}
 use Rattle.fg_crew.specs.Slots.{AllHaveWorked, Has, HasEnded, HasEndedWell, HasFinished, desk_results, desk_seat, results_at, seat_at}
 use Rattle.fg_task.specs.Spending.{NoneBad, Counted, SpentInAll, active_in, sent_in, visits_in}
 use Rattle.fg_crew.proofs.CaseLaws.{on_ok}
@@ -27,10 +27,8 @@ use Rattle.fg_steal.specs.Seat.{SeatValue, WasToldOfAll}
 abbrev pub all_drawn : List SeatValue → List (ℕ × ℕ)
 all_drawn seats = flat_map (λ (seat : SeatValue). seat.drawn) seats
 
--- seats and results taken from slots whose workers all ended well
-pub record AreTaken (plan : Plan) (claims : ClaimsValue) (old new : List Counted) (seats : List SeatValue) (results : List BlockResult) : Type 0 where
-  pub count : length seats ≡ length old
-  pub own : All (λ (seat : SeatValue). seat.claims ≡ claims) seats
+-- results of what seats drew, taken from slots whose workers all ended well
+pub record AreTaken (plan : Plan) (old new : List Counted) (seats : List SeatValue) (results : List BlockResult) : Type 0 where
   pub told : All (λ (seat : SeatValue). WasToldOfAll plan.counts seat) seats
   pub same : map (λ (one : BlockResult). one.block) results ≡ map (block_drawn plan) (all_drawn seats)
   pub each_own : All (λ (one : BlockResult). IsResult plan.blocks one.block one) results
@@ -38,14 +36,12 @@ pub record AreTaken (plan : Plan) (claims : ClaimsValue) (old new : List Counted
 
 module _ (plan : Plan) (claims : ClaimsValue) where
   module _ {F : Type 0} (before after : Counted) where
-    taken-one : (desk : Desk F) → HasFinished plan claims before after desk → AreTaken plan claims (before ∷ []) (after ∷ []) (desk.seat ∷ []) desk.results.items
+    taken-one : (desk : Desk F) → HasFinished plan before after desk → AreTaken plan (before ∷ []) (after ∷ []) (desk.seat ∷ []) desk.results.items
     taken-one desk done =
         let blocks = plan.blocks in
         let exact = done.exact in
         let all : desk.results.items ≡ exact.added = exact.behind in
         record {
-          count = refl;
-          own = All-cons (λ (seat : SeatValue). seat.claims ≡ claims) desk.seat [] done.own (All-nil (λ (seat : SeatValue). seat.claims ≡ claims));
           told = All-cons (λ (seat : SeatValue). WasToldOfAll plan.counts seat) desk.seat [] done.told (All-nil (λ (seat : SeatValue). WasToldOfAll plan.counts seat));
           same = done.results.same ∙ ap (map (block_drawn plan)) (sym (append-nil desk.seat.drawn));
           each_own = done.results.each_own;
@@ -59,18 +55,16 @@ module _ (plan : Plan) (claims : ClaimsValue) where
         }
 
     taken-at : (desk : Option (Desk F)) (caused : F → Type 0) → Has (HasEnded plan claims caused before after) desk → Has (λ (one : Desk F). one.end ≡ Ok tt) desk
-        → AreTaken plan claims (before ∷ []) (after ∷ []) (desk_seat desk) (desk_results desk)
+        → AreTaken plan (before ∷ []) (after ∷ []) (desk_seat desk) (desk_results desk)
     taken-at None caused ended well = absurd ended
     taken-at (Some desk) caused ended well = taken-one desk (on_ok desk.end tt well ended.ok)
 
-  taken-both : (old new olds news : List Counted) (seats more_seats : List SeatValue) (results more : List BlockResult) → AreTaken plan claims old new seats results
-      → AreTaken plan claims olds news more_seats more → AreTaken plan claims (old ++ olds) (new ++ news) (seats ++ more_seats) (results ++ more)
+  taken-both : (old new olds news : List Counted) (seats more_seats : List SeatValue) (results more : List BlockResult) → AreTaken plan old new seats results
+      → AreTaken plan olds news more_seats more → AreTaken plan (old ++ olds) (new ++ news) (seats ++ more_seats) (results ++ more)
   taken-both old new olds news seats more_seats results more one rest =
       let blocks = plan.blocks in
       let fine = λ (result : BlockResult). result.bad ≡ None in
       record {
-        count = omega (arith, length-append seats more_seats, length-append old olds, one.count, rest.count);
-        own = All-append (λ (seat : SeatValue). seat.claims ≡ claims) seats more_seats one.own rest.own;
         told = All-append (λ (seat : SeatValue). WasToldOfAll plan.counts seat) seats more_seats one.told rest.told;
         same = map-append (λ (result : BlockResult). result.block) results more ∙ ap₂ (λ (l m : List ℕ). l ++ m) one.same rest.same
             ∙ sym (map-append (block_drawn plan) (all_drawn seats) (all_drawn more_seats))
@@ -93,10 +87,8 @@ module _ (plan : Plan) (claims : ClaimsValue) where
         };
       }
 
-  taken-none : AreTaken plan claims [] [] [] []
+  taken-none : AreTaken plan [] [] [] []
   taken-none = record {
-    count = refl;
-    own = All-nil (λ (seat : SeatValue). seat.claims ≡ claims);
     told = All-nil (λ (seat : SeatValue). WasToldOfAll plan.counts seat);
     same = refl;
     each_own = All-nil (λ (result : BlockResult). IsResult plan.blocks result.block result);
@@ -107,8 +99,8 @@ module _ (plan : Plan) (claims : ClaimsValue) where
     abbrev pub spent_at : Slot K F → Counted
     spent_at slot = spent slot.kept
 
-    pub all_taken : (old new : List (Slot K F)) → AllHaveWorked plan claims lends spent caused old new → All HasEndedWell new
-        → AreTaken plan claims (map spent_at old) (map spent_at new) (flat_map seat_at new) (flat_map results_at new)
+    all_taken : (old new : List (Slot K F)) → AllHaveWorked plan claims lends spent caused old new → All HasEndedWell new
+        → AreTaken plan (map spent_at old) (map spent_at new) (flat_map seat_at new) (flat_map results_at new)
     all_taken [] [] worked well = taken-none
     all_taken [] (slot ∷ new) worked well = absurd (omega (arith, worked.count))
     all_taken (slot ∷ old) [] worked well = absurd (omega (arith, worked.count))
@@ -118,15 +110,11 @@ module _ (plan : Plan) (claims : ClaimsValue) where
         (taken-at (spent_at slot) (spent_at now) now.desk caused here.desk (All-head HasEndedWell now new well))
         (all_taken old new (record { count = omega (arith, worked.count); each = λ k d below. worked.each (suc k) d (omega (arith, below)) }) (All-tail HasEndedWell now new well))
 
-    -- seats and results that were put behind none
-    pub taken_behind : (old worked : List (Slot K F)) (no_seats seats : List SeatValue) (no_results results : List BlockResult) → AllHaveWorked plan claims lends spent caused old worked
-        → All HasEndedWell worked → no_seats ≡ [] → seats ≡ no_seats ++ flat_map seat_at worked → no_results ≡ [] → results ≡ no_results ++ flat_map results_at worked
-        → AreTaken plan claims (map spent_at old) (map spent_at worked) seats results
-    taken_behind old worked no_seats seats no_results results all well no_seat seated no_result behind =
-        let all_seats : seats ≡ flat_map seat_at worked = seated ∙ ap (λ (l : List SeatValue). l ++ flat_map seat_at worked) no_seat in
-        let all_results : results ≡ flat_map results_at worked = behind ∙ ap (λ (l : List BlockResult). l ++ flat_map results_at worked) no_result in
-        subst (λ (l : List SeatValue). AreTaken plan claims (map spent_at old) (map spent_at worked) l results) (sym all_seats)
-        (subst (λ (l : List BlockResult). AreTaken plan claims (map spent_at old) (map spent_at worked) (flat_map seat_at worked) l) (sym all_results) (all_taken old worked all well))
+    pub taken_all : (old worked : List (Slot K F)) (seats : List SeatValue) (results : List BlockResult) → AllHaveWorked plan claims lends spent caused old worked
+        → All HasEndedWell worked → seats ≡ flat_map seat_at worked → results ≡ flat_map results_at worked → AreTaken plan (map spent_at old) (map spent_at worked) seats results
+    taken_all old worked seats results all well seats_are results_are =
+        subst (λ (l : List SeatValue). AreTaken plan (map spent_at old) (map spent_at worked) l results) (sym seats_are)
+        (subst (λ (l : List BlockResult). AreTaken plan (map spent_at old) (map spent_at worked) (flat_map seat_at worked) l) (sym results_are) (all_taken old worked all well))
 
     -- of the slots after seats and results were taken, where what was kept wasn't touched
     module _ (old worked new : List (Slot K F)) (all : AllHaveWorked plan claims lends spent caused old worked)
@@ -139,16 +127,11 @@ module _ (plan : Plan) (claims : ClaimsValue) where
           let under : k < length old = omega (arith, below, same_count) in
           subst lends (sym (kept_at new worked same k d below)) (all.each k d under).lent
 
-      pub still_few : (k : ℕ) (d : Slot K F) → k < length old → SpentWithinAll plan (spent (get_or old k d).kept) (spent (get_or new k d).kept)
-      still_few k d under =
-          subst (λ (kept : K). SpentWithinAll plan (spent (get_or old k d).kept) (spent kept))
-          (sym (kept_at new worked same k d (omega (arith, under, same_count)))) (all.each k d under).few
-
       pub same_spent : map (λ (slot : Slot K F). spent slot.kept) new ≡ map (λ (slot : Slot K F). spent slot.kept) worked
       same_spent = sym (map-map spent (λ (slot : Slot K F). slot.kept) new) ∙ ap (map spent) same ∙ map-map spent (λ (slot : Slot K F). slot.kept) worked
 
 -- so the results are those of the wave
-pub taken_wave : (plan : Plan) (claims : ClaimsValue) (old new : List Counted) (seats : List SeatValue) (results : List BlockResult) → IsDealt plan
-    → AreTaken plan claims old new seats results → EachOnce plan.counts (all_drawn seats) → IsWave plan.blocks plan.list plan.from plan.to results
-taken_wave plan claims old new seats results dealt taken each =
+pub taken_wave : (plan : Plan) (old new : List Counted) (seats : List SeatValue) (results : List BlockResult) → IsDealt plan
+    → AreTaken plan old new seats results → EachOnce plan.counts (all_drawn seats) → IsWave plan.blocks plan.list plan.from plan.to results
+taken_wave plan old new seats results dealt taken each =
     wave_is plan.blocks plan.list plan.from plan.to results (each_block_once plan dealt (all_drawn seats) results each taken.same) taken.each_own

@@ -1,44 +1,48 @@
--- What a worker spends on what it drew leaves room for the rest of the wave.
-use Rattle.std.proofs.Common.{◌≡◌, ℕ, ◌+◌, ◌<◌, List, slice_index, ap, ◌∙◌, arith}
-use Rattle.fg_task.specs.declared.block_result.BlockResult.{BlockResult}
-use Rattle.fg_crew.specs.Claimed.{AreResults, IsDealt, Plan, SpentOnFew, WithinRoom, block_drawn}
-use Rattle.fg_task.specs.Spending.{HasRoom, Counted, SpentOnMore, SpentUpTo, active_in, sent_in}
-use Rattle.fg_crew.proofs.DrawLaws.{one_more_within, results_within}
-use Rattle.fg_crew.proofs.SpendingLaws.{active-append, sent-append}
-use Rattle.fg_steal.specs.Claims.{times_drawn}
+-- What a worker spends on what it draws leaves room for the rest of the wave.
+use Rattle.std.proofs.Common.{◌≡◌, ℕ, ◌<◌, List, [], ◌∷◌, ◌++◌, slice_index, ap, arith}
+use Rattle.fg_crew.specs.Claimed.{IsDealt, Plan, SpentOnDraws, WithinRoom, block_drawn, in_drawn}
+use Rattle.fg_task.specs.Spending.{Counted, HasRoom, SpentUpTo}
+use Rattle.fg_crew.proofs.DrawLaws.{drawn_within, in_drawn-more}
+use Rattle.fg_steal.specs.Claims.{AtMostOnce, times_drawn}
+use Rattle.fg_steal.proofs.AllBlocks.{at_most_more}
 
-module _ (plan : Plan) (first now : Counted) (before results : List BlockResult) (exact : SpentOnMore plan.blocks first now before results) where
-  active_split : active_in results ≡ active_in before + active_in exact.added
-  active_split = ap active_in exact.behind ∙ active-append before exact.added
+module _ (plan : Plan) where
+  pub draws-none : (now : Counted) (drawn : List (ℕ × ℕ)) → SpentOnDraws plan now now drawn drawn
+  draws-none now drawn = record { few_runs = omega arith; few_entries = omega arith }
 
-  sent_split : sent_in results ≡ sent_in before + sent_in exact.added
-  sent_split = ap sent_in exact.behind ∙ sent-append before exact.added
-
-  -- room that there was at first is there still
-  pub room-later : WithinRoom plan first before → WithinRoom plan now results
-  room-later room = record {
-    for_runs = omega (arith, room.for_runs, exact.runs, active_split);
-    for_entries = omega (arith, room.for_entries, exact.entries, sent_split);
-  }
-
-  module _ (dealt : IsDealt plan) (drawn : List (ℕ × ℕ)) (are : AreResults plan drawn results) where
-    pub few-so_far : SpentOnFew plan first now before
-    few-so_far = let most = results_within plan dealt drawn results are in record {
-      few_runs = omega (arith, most.0, exact.runs, active_split);
-      few_entries = omega (arith, most.1, exact.entries, sent_split);
+  module _ (first now : Counted) (before drawn : List (ℕ × ℕ)) (so_far : SpentOnDraws plan first now before drawn) where
+    -- room that there was at first is there still
+    pub room-later : WithinRoom plan first before → WithinRoom plan now drawn
+    room-later room = record {
+      for_runs = omega (arith, room.for_runs, so_far.few_runs);
+      for_entries = omega (arith, room.for_entries, so_far.few_entries);
     }
 
-    -- one draw more, of a block that wasn't drawn
-    module _ (part k : ℕ) (below : k < slice_index plan.counts part) (new : times_drawn part k drawn ≡ 0) where
-      pub room-for_one : WithinRoom plan first before → HasRoom now (plan.blocks.active_of (block_drawn plan (part, k))) (plan.blocks.needed_of (block_drawn plan (part, k)))
-      room-for_one room = let most = one_more_within plan dealt drawn results part k are below new in record {
-        for_runs = omega (arith, most.0, room.for_runs, exact.runs, active_split);
-        for_entries = omega (arith, most.1, room.for_entries, exact.entries, sent_split);
-      }
+    pub draws-then : (last : Counted) (after : List (ℕ × ℕ)) → SpentOnDraws plan now last drawn after → SpentOnDraws plan first last before after
+    draws-then last after more = record {
+      few_runs = omega (arith, so_far.few_runs, more.few_runs);
+      few_entries = omega (arith, so_far.few_entries, more.few_entries);
+    }
 
-      pub few-with_one : (last : Counted) → SpentUpTo now last (plan.blocks.active_of (block_drawn plan (part, k))) (plan.blocks.needed_of (block_drawn plan (part, k)))
-          → SpentOnFew plan first last before
-      few-with_one last few = let most = one_more_within plan dealt drawn results part k are below new in record {
-        few_runs = omega (arith, most.0, few.few_runs, exact.runs, active_split);
-        few_entries = omega (arith, most.1, few.few_entries, exact.entries, sent_split);
+    -- one draw more, of this block
+    pub draws-more : (part k block : ℕ) (last : Counted) (after : List (ℕ × ℕ)) → block ≡ block_drawn plan (part, k) → after ≡ drawn ++ (part, k) ∷ []
+        → SpentUpTo now last (plan.blocks.active_of block) (plan.blocks.needed_of block) → SpentOnDraws plan first last before after
+    draws-more part k block last after own more few =
+        let active = plan.blocks.active_of in
+        let needed = plan.blocks.needed_of in
+        record {
+          few_runs = omega (arith, so_far.few_runs, few.few_runs, ap active own, ap (in_drawn plan active) more, in_drawn-more plan active drawn part k);
+          few_entries = omega (arith, so_far.few_entries, few.few_entries, ap needed own, ap (in_drawn plan needed) more, in_drawn-more plan needed drawn part k);
+        }
+
+  -- for a block that wasn't drawn
+  pub room-for_one : IsDealt plan → (now : Counted) (drawn : List (ℕ × ℕ)) (part k : ℕ) → WithinRoom plan now drawn → AtMostOnce plan.counts drawn
+      → k < slice_index plan.counts part → times_drawn part k drawn ≡ 0
+      → HasRoom now (plan.blocks.active_of (block_drawn plan (part, k))) (plan.blocks.needed_of (block_drawn plan (part, k)))
+  room-for_one dealt now drawn part k room once below new =
+      let more = drawn ++ (part, k) ∷ [] in
+      let still = at_most_more plan.counts drawn part k once below new in
+      record {
+        for_runs = omega (arith, room.for_runs, in_drawn-more plan plan.blocks.active_of drawn part k, drawn_within plan dealt plan.blocks.active_of more still);
+        for_entries = omega (arith, room.for_entries, in_drawn-more plan plan.blocks.needed_of drawn part k, drawn_within plan dealt plan.blocks.needed_of more still);
       }

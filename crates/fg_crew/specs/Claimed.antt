@@ -1,10 +1,11 @@
 -- A wave whose blocks are claimed in parts, and the results of those that were drawn.
 use Rattle.std.specs.Prelude.{◌≡◌, ℕ, ◌+◌, ◌-◌, ◌*◌, ◌^◌, ◌<◌, ◌≤◌, List, [], ◌∷◌, ◌++◌, All, length, map as each, slice_index}
+use Rattle.std.specs.List.{sum_by}
 use Rattle.fg_task.specs.declared.block_result.BlockResult.{BlockResult}
 use Rattle.fg_crew.specs.declared.working.Wave.{Wave}
 use Rattle.fg_task.specs.Blocks.{Blocks, IsResult}
-use Rattle.fg_task.specs.Spending.{Counted, active_in, sent_in}
-use Rattle.fg_crew.specs.Wave.{HasRoomForAll, SpentWithin, block_at, in_all}
+use Rattle.fg_task.specs.Spending.{Counted}
+use Rattle.fg_crew.specs.Wave.{HasRoomForAll, block_at, in_all}
 use Rattle.fg_part.specs.PartMap.{block_total}
 use Rattle.fg_steal.specs.Claims.{AtMostOnce}
 
@@ -64,19 +65,20 @@ pub record AddsResult (blocks : Blocks) (block : ℕ) (before after : List Block
   pub added : after ≡ before ++ result ∷ []
   pub is : IsResult blocks block result
 
--- the wave as a worker's spending meets it
+-- what was counted leaves room for the whole wave
 abbrev pub HasRoomFor : Plan → Counted → Type 0
 HasRoomFor plan spent = HasRoomForAll plan.blocks plan.list plan.from plan.to spent
 
-abbrev pub SpentWithinAll : Plan → Counted → Counted → Type 0
-SpentWithinAll plan old new = SpentWithin plan.blocks plan.list plan.from plan.to old new
+-- what a number for each block comes to over what was drawn
+abbrev pub in_drawn : Plan → (ℕ → ℕ) → List (ℕ × ℕ) → ℕ
+in_drawn plan of drawn = sum_by (λ draw. of (block_drawn plan draw)) drawn
 
--- with what was counted for results, there is room for the rest of the wave
-pub record WithinRoom (plan : Plan) (spent : Counted) (results : List BlockResult) : Type 0 where
-  pub for_runs : spent.runs + in_all plan.blocks.active_of plan.list plan.from plan.to < 2 ^ 64 + active_in results
-  pub for_entries : spent.entries + in_all plan.blocks.needed_of plan.list plan.from plan.to < 2 ^ 64 + sent_in results
+-- with what was counted for draws, there is room for the rest of the wave
+pub record WithinRoom (plan : Plan) (spent : Counted) (drawn : List (ℕ × ℕ)) : Type 0 where
+  pub for_runs : spent.runs + in_all plan.blocks.active_of plan.list plan.from plan.to < 2 ^ 64 + in_drawn plan plan.blocks.active_of drawn
+  pub for_entries : spent.entries + in_all plan.blocks.needed_of plan.list plan.from plan.to < 2 ^ 64 + in_drawn plan plan.blocks.needed_of drawn
 
--- beside the results that there were, no more was counted than the rest of the wave asks for
-pub record SpentOnFew (plan : Plan) (old new : Counted) (before : List BlockResult) : Type 0 where
-  pub few_runs : new.runs + active_in before ≤ old.runs + in_all plan.blocks.active_of plan.list plan.from plan.to
-  pub few_entries : new.entries + sent_in before ≤ old.entries + in_all plan.blocks.needed_of plan.list plan.from plan.to
+-- from the draws before to those after, no more was counted than the blocks between them ask for
+pub record SpentOnDraws (plan : Plan) (old new : Counted) (before after : List (ℕ × ℕ)) : Type 0 where
+  pub few_runs : new.runs + in_drawn plan plan.blocks.active_of before ≤ old.runs + in_drawn plan plan.blocks.active_of after
+  pub few_entries : new.entries + in_drawn plan plan.blocks.needed_of before ≤ old.entries + in_drawn plan plan.blocks.needed_of after

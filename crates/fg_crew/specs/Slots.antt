@@ -5,7 +5,7 @@ use Rattle.fg_crew.specs.declared.slot.Desk.{Desk}
 use Rattle.fg_crew.specs.declared.slot.Slot.{Slot}
 use Rattle.fg_crew.specs.declared.working.Wave.{Wave}
 use Rattle.fg_task.specs.Blocks.{Blocks, HasCause}
-use Rattle.fg_crew.specs.Claimed.{AreResults, HasRoomFor, Plan, SpentWithinAll, plan_of}
+use Rattle.fg_crew.specs.Claimed.{AreResults, HasRoomFor, Plan, SpentOnDraws, plan_of}
 use Rattle.fg_task.specs.Spending.{Counted, SpentOnMore}
 use Rattle.fg_steal.specs.Claims.{ClaimsValue}
 use Rattle.fg_steal.specs.Seat.{SeatValue, WasToldOfAll, fresh_seat}
@@ -21,15 +21,16 @@ pub record IsFresh {F : Type 0} (claims : ClaimsValue) (desk : Desk F) : Type 0 
   pub none : desk.results.items ≡ []
 
 -- A worker that ended without a fault was told of each part that none is left, and has the results of all that it drew.
-pub record HasFinished {F : Type 0} (plan : Plan) (claims : ClaimsValue) (old new : Counted) (desk : Desk F) : Type 0 where
-  pub own : desk.seat.claims ≡ claims
+pub record HasFinished {F : Type 0} (plan : Plan) (old new : Counted) (desk : Desk F) : Type 0 where
   pub told : WasToldOfAll plan.counts desk.seat
   pub results : AreResults plan desk.seat.drawn desk.results.items
   pub exact : SpentOnMore plan.blocks old new [] desk.results.items
 
--- how a worker ended
+-- How a worker ended. Whether it failed or not, it counted no more than what it drew asks for.
 pub record HasEnded {F : Type 0} (plan : Plan) (claims : ClaimsValue) (caused : F → Type 0) (old new : Counted) (desk : Desk F) : Type 0 where
-  pub ok : OnOk desk.end (HasFinished plan claims old new desk)
+  pub own : desk.seat.claims ≡ claims
+  pub few : SpentOnDraws plan old new [] desk.seat.drawn
+  pub ok : OnOk desk.end (HasFinished plan old new desk)
   pub fault : IfErr desk.end (HasCause caused)
 
 -- a worker's slot before a wave: its seat is fresh, and what it kept has room for the whole wave
@@ -42,7 +43,6 @@ pub record IsReady {K F : Type 0} (plan : Plan) (claims : ClaimsValue) (lends : 
 pub record HasWorked {K F : Type 0} (plan : Plan) (claims : ClaimsValue) (lends : K → Type 0) (spent : K → Counted) (caused : F → Type 0) (old new : Slot K F) : Type 0 where
   pub desk : Has (HasEnded plan claims caused (spent old.kept) (spent new.kept)) new.desk
   pub lent : lends new.kept
-  pub few : SpentWithinAll plan (spent old.kept) (spent new.kept)
 
 -- all slots, each in its place
 pub record AllHaveWorked {K F : Type 0} (plan : Plan) (claims : ClaimsValue) (lends : K → Type 0) (spent : K → Counted) (caused : F → Type 0) (old new : List (Slot K F)) : Type 0 where

@@ -1,7 +1,8 @@
 -- A wave, which is the blocks at the places from `from` to below `to` of a list, and its results.
-use Rattle.std.specs.Prelude.{◌≡◌, ℕ, ◌-◌, ◌≤◌, true, List, All, IsPermutation, map as each, slice_index_or}
+use Rattle.std.specs.Prelude.{◌≡◌, ℕ, ◌-◌, ◌<◌, ◌≤◌, true, List, All, IsPermutation, length, map as each, slice_index_or}
 use Rattle.std.specs.List.{flat_map, range_with_len, sum_by}
 use Rattle.fg_task.specs.declared.block_result.BlockResult.{BlockResult}
+use Rattle.fg_crew.specs.declared.slot.Slot.{Slot}
 use Rattle.fg_task.specs.Blocks.{Blocks, IsResult, mail_of}
 use Rattle.fg_task.specs.Spending.{HasRoom, NoneBad, Counted, SpentUpTo, active_in, sent_in, visits_in}
 
@@ -24,6 +25,11 @@ HasRoomForAll blocks list from to spent = HasRoom spent (in_all blocks.active_of
 -- no more was counted than the whole wave asks for
 abbrev pub SpentWithin : Blocks → List ℕ → ℕ → ℕ → Counted → Counted → Type 0
 SpentWithin blocks list from to old new = SpentUpTo old new (in_all blocks.active_of list from to) (in_all blocks.needed_of list from to)
+
+-- each worker counted no more than that
+abbrev pub EachSpentWithin : {K F : Type 0} → (K → Counted) → Blocks → List ℕ → ℕ → ℕ → List (Slot K F) → List (Slot K F) → Type 0
+EachSpentWithin spent blocks list from to old new =
+    (k : ℕ) (d : Slot _ _) → k < length old → SpentWithin blocks list from to (spent (slice_index_or old k d).kept) (spent (slice_index_or new k d).kept)
 
 -- Each block of the wave has one result, in any order. So the results together are those of its blocks.
 pub record IsWave (blocks : Blocks) (list : List ℕ) (from to : ℕ) (results : List BlockResult) : Type 0 where

@@ -1,6 +1,6 @@
 //! The workers take their seats for a wave.
 
-ghost use Rattle.std.specs.Prelude.{◌≡◌, ℕ, ◌<◌, [], All, length, map, slice_index_or};
+ghost use Rattle.std.specs.Prelude.{◌≡◌, ℕ, ◌<◌, [], All, length, map, slice_index_or, vec_capacity};
 ghost use Rattle.fg_crew.specs.Slots.{Has, IsFresh};
 ghost use Rattle.fg_steal.specs.Claims.{ClaimsValue};
 ghost use Rattle.fg_steal.specs.Seat.{fresh_seat};
@@ -19,6 +19,7 @@ pub(crate) fn seat_all<K, F: Drop>(
     requires count { length seats.old.items ≡ length slots.old }
     requires fresh { All (λ seat. seat ≡ fresh_seat claims.now seat.number) seats.old.items }
     ensures seats { seats.new.items ≡ [] }
+    ensures room { vec_capacity seats.new ≡ vec_capacity seats.old }
     ensures kept { map (λ slot. slot.kept) slots.new ≡ map (λ slot. slot.kept) slots.old }
     ensures fresh { All (λ slot. Has (IsFresh claims.now) slot.desk) slots.new }
 {

@@ -1,6 +1,6 @@
 //! Seats and results are taken back from the workers of a wave.
 
-ghost use Rattle.std.specs.Prelude.{◌≡◌, ◌++◌, ◌∷◌, [], All, IfErr, OnOk, map};
+ghost use Rattle.std.specs.Prelude.{◌≡◌, ◌+◌, ◌<◌, ◌≤◌, ◌++◌, [], All, IfErr, OnOk, length, map, vec_capacity, vec_len};
 ghost use Rattle.std.specs.List.{flat_map};
 ghost use Rattle.fg_task.specs.Blocks.{HasCause};
 ghost use Rattle.fg_task.specs.declared.block_result.WorkFault.{WorkFault};
@@ -10,7 +10,8 @@ use crate::slot::{Desk, Slot};
 use fg_steal::Seat;
 use fg_task::{BlockResult, RunsBlock, WorkFault};
 
-/// Takes the seats and the results of all slots in order, up to the first worker that failed.
+/// Takes the seats and the results of all slots in order. Where workers failed, the fault of the first of them is answered, and the seats
+/// are there all the same.
 pub(crate) fn take_back<K, B: RunsBlock<K>>(
     runner: &B,
     slots: &mut [Slot<K, B::Fault>],
@@ -18,19 +19,18 @@ pub(crate) fn take_back<K, B: RunsBlock<K>>(
     results: &mut Vec<BlockResult>,
 ) -> Result<(), WorkFault<B::Fault>>
     requires faults { All (FaultHasCause (B.caused runner.now)) slots.old }
+    requires room { vec_len seats.old + length slots.old ≤ vec_capacity seats.old }
     ensures kept { map (λ slot. slot.kept) slots.new ≡ map (λ slot. slot.kept) slots.old }
+    ensures seats { seats.new.items ≡ seats.old.items ++ flat_map seat_at slots.old }
     ensures ended { OnOk result (All HasEndedWell slots.old) }
-    ensures seats { OnOk result (seats.new.items ≡ seats.old.items ++ flat_map seat_at slots.old) }
     ensures results { OnOk result (results.new.items ≡ results.old.items ++ flat_map results_at slots.old) }
     ensures fault { IfErr result (λ fault. HasCause (B.caused runner.now) fault) }
 {
+    let mut taken = Ok(());
     for k in 0..slots.len() {
-        match take_one(runner, &mut slots[k], seats, results) {
-            Ok(()) => {}
-            Err(fault) => return Err(fault),
-        }
+        taken = taken.and(take_one(runner, &mut slots[k], seats, results));
     }
-    Ok(())
+    taken
 }
 
 /// Takes the seat and the results of a slot.
@@ -41,9 +41,11 @@ fn take_one<K, B: RunsBlock<K>>(
     results: &mut Vec<BlockResult>,
 ) -> Result<(), WorkFault<B::Fault>>
     requires faults { FaultHasCause (B.caused runner.now) slot.old }
+    requires room { vec_len seats.old < vec_capacity seats.old }
     ensures kept { slot.new.kept ≡ slot.old.kept }
+    ensures seats { seats.new.items ≡ seats.old.items ++ seat_at slot.old }
+    ensures room { (vec_len seats.new ≤ vec_len seats.old + 1) × (vec_capacity seats.new ≡ vec_capacity seats.old) }
     ensures ended { OnOk result (HasEndedWell slot.old) }
-    ensures seats { OnOk result (seats.new.items ≡ seats.old.items ++ seat_at slot.old) }
     ensures results { OnOk result (results.new.items ≡ results.old.items ++ results_at slot.old) }
     ensures fault { IfErr result (λ fault. HasCause (B.caused runner.now) fault) }
 {
@@ -55,26 +57,21 @@ fn take_one<K, B: RunsBlock<K>>(
         results: mut more,
         end,
     } = desk;
+    seats.push_reserved(seat);
     match end {
-        Ok(()) => keep(seat, &mut more, seats, results),
+        Ok(()) => keep(&mut more, results),
         Err(fault) => Err(fault),
     }
 }
 
-/// Keeps a seat and results behind the others.
+/// Keeps results behind the others.
 fn keep<F: Drop>(
-    seat: Seat,
     more: &mut Vec<BlockResult>,
-    seats: &mut Vec<Seat>,
     results: &mut Vec<BlockResult>,
 ) -> Result<(), WorkFault<F>>
-    ensures seats { OnOk result (seats.new.items ≡ seats.old.items ++ seat ∷ []) }
     ensures results { OnOk result (results.new.items ≡ results.old.items ++ more.old.items) }
     ensures memory { IfErr result (λ fault. fault ≡ WorkFault.Memory) }
 {
-    let Ok(()) = seats.push(seat) else {
-        return Err(WorkFault::Memory);
-    };
     let Ok(()) = results.append(more) else {
         return Err(WorkFault::Memory);
     };

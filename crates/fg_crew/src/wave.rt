@@ -1,12 +1,12 @@
 //! The workers of a wave at once.
 
-ghost use Rattle.std.specs.Prelude.{◌≡◌, ℕ, ◌-◌, ◌<◌, ◌≤◌, [], All, IfErr, IfOk, length, map, slice_index_or};
+ghost use Rattle.std.specs.Prelude.{◌≡◌, ◌-◌, ◌<◌, ◌≤◌, [], All, IfErr, IfOk, length, map, vec_capacity};
 ghost use Rattle.fg_base.specs.declared.limits.TheConstants.{MAX_VERTICES, MAX_WORKERS};
 ghost use Rattle.fg_task.specs.Blocks.{HasCause};
-ghost use Rattle.fg_crew.specs.Claimed.{HasRoomFor, IsDealt, SpentWithinAll, plan_of};
+ghost use Rattle.fg_crew.specs.Claimed.{HasRoomFor, IsDealt, plan_of};
 ghost use Rattle.fg_crew.specs.Slots.{AllHaveWorkedOn, HasWorked, IsReady};
-ghost use Rattle.fg_task.specs.Spending.{SpentInAll};
-ghost use Rattle.fg_crew.specs.Wave.{HasRoomForAll, IsWave, SpentWithin};
+ghost use Rattle.fg_task.specs.Spending.{SpentInAll, SpentInAllUpTo};
+ghost use Rattle.fg_crew.specs.Wave.{EachSpentWithin, HasRoomForAll, IsWave, blocks_in};
 ghost use Rattle.fg_part.specs.PartMap.{block_total};
 ghost use Rattle.fg_steal.specs.Seat.{fresh_seat};
 
@@ -47,8 +47,9 @@ pub fn work_wave<K: Send, B: RunsBlock<K> + Sync, R: Threads + Wait + Sync>(
     // at every answer
     ensures count { length slots.new ≡ length slots.old }
     ensures lent { All (λ slot. B.lends runner.now slot.kept) slots.new }
-    ensures few { (k : ℕ) (d : _) → k < length slots.old → SpentWithin (B.blocks runner.now) list.now from to
-        (B.spent (slice_index_or slots.old k d).kept) (B.spent (slice_index_or slots.new k d).kept) }
+    ensures few { EachSpentWithin B.spent (B.blocks runner.now) list.now from to slots.old slots.new }
+    ensures few_in_all { SpentInAllUpTo (B.blocks runner.now) (blocks_in list.now from to)
+        (map (λ slot. B.spent slot.kept) slots.old) (map (λ slot. B.spent slot.kept) slots.new) }
     ensures fault { IfErr result (λ fault. HasCause (B.caused runner.now) fault) }
 {
     let parts = slots.len() as u32;
@@ -65,7 +66,7 @@ pub fn work_wave<K: Send, B: RunsBlock<K> + Sync, R: Threads + Wait + Sync>(
     run_wave(rt, alloc, wave, seats, slots)
 }
 
-/// Runs the blocks of the wave and closes its claims, of which the seats are.
+/// Runs the blocks of the wave and ends its claims, of which the seats are.
 fn run_wave<K: Send, B: RunsBlock<K> + Sync, R: Threads + Wait + Sync>(
     rt: &R,
     alloc: Global,
@@ -83,8 +84,9 @@ fn run_wave<K: Send, B: RunsBlock<K> + Sync, R: Threads + Wait + Sync>(
         (map (λ slot. B.spent slot.kept) slots.old) (map (λ slot. B.spent slot.kept) slots.new) results.items) }
     ensures count { length slots.new ≡ length slots.old }
     ensures lent { All (λ slot. B.lends wave.entry.runner.now slot.kept) slots.new }
-    ensures few { (k : ℕ) (d : _) → k < length slots.old → SpentWithinAll (plan_of B.blocks wave.entry)
-        (B.spent (slice_index_or slots.old k d).kept) (B.spent (slice_index_or slots.new k d).kept) }
+    ensures few { EachSpentWithin B.spent (B.blocks wave.entry.runner.now) wave.entry.list.now wave.entry.from wave.entry.to slots.old slots.new }
+    ensures few_in_all { SpentInAllUpTo (B.blocks wave.entry.runner.now) (blocks_in wave.entry.list.now wave.entry.from wave.entry.to)
+        (map (λ slot. B.spent slot.kept) slots.old) (map (λ slot. B.spent slot.kept) slots.new) }
     ensures fault { IfErr result (λ fault. HasCause (B.caused wave.entry.runner.now) fault) }
 {
     run_all(rt, alloc, &wave, &mut seats, slots);
@@ -96,7 +98,10 @@ fn run_wave<K: Send, B: RunsBlock<K> + Sync, R: Threads + Wait + Sync>(
             claims.close(seats);
             Ok(results)
         }
-        Err(fault) => Err(fault),
+        Err(fault) => {
+            claims.stop(seats);
+            Err(fault)
+        }
     }
 }
 
@@ -115,6 +120,7 @@ fn run_all<K: Send, B: RunsBlock<K> + Sync, R: Threads + Wait + Sync>(
     requires lent { All (λ slot. B.lends wave.now.runner.now slot.kept) slots.old }
     requires room { All (λ slot. HasRoomFor (plan_of B.blocks wave.now) (B.spent slot.kept)) slots.old }
     ensures seats { seats.new.items ≡ [] }
+    ensures room { vec_capacity seats.new ≡ vec_capacity seats.old }
     ensures worked { AllHaveWorkedOn B.blocks B.lends B.spent B.caused wave.now slots.old slots.new }
 {
     seat_all(alloc, &wave.claims, seats, slots);

@@ -3,9 +3,9 @@
 ghost use Rattle.std.specs.Prelude.{◌≡◌, ℕ, ◌+◌, ◌-◌, ◌<◌, ◌≤◌, ◌++◌, ◌∷◌, [], IfErr, OnOk, length};
 ghost use Rattle.std.specs.List.{Contains, range_with_len};
 ghost use Rattle.fg_task.specs.Blocks.{HasCause};
-ghost use Rattle.fg_crew.specs.Claimed.{AddsResult, AreResults, HasRoomFor, IsDealt, SpentOnFew, SpentWithinAll, WithinRoom, plan_of};
+ghost use Rattle.fg_crew.specs.Claimed.{AddsResult, AreResults, HasRoomFor, IsDealt, SpentOnDraws, WithinRoom, in_drawn, plan_of};
 ghost use Rattle.fg_crew.specs.Slots.{HasWorkedOn, IsReady};
-ghost use Rattle.fg_task.specs.Spending.{HasRoom, SpentOnMore, SpentUpTo, active_in, sent_in};
+ghost use Rattle.fg_task.specs.Spending.{HasRoom, SpentOnMore, SpentUpTo};
 ghost use Rattle.fg_crew.specs.Wave.{block_at, in_all};
 ghost use Rattle.fg_part.specs.PartMap.{block_total};
 ghost use Rattle.fg_steal.specs.Seat.{WasToldOfAll, fresh_seat};
@@ -69,12 +69,12 @@ fn spend_all<K, B: RunsBlock<K>, R: Wait>(
     requires none { results.old.items ≡ [] }
     requires lent { B.lends wave.now.runner.now kept.old }
     requires room { HasRoomFor (plan_of B.blocks wave.now) (B.spent kept.old) }
-    ensures own { OnOk result.1 (result.0.claims ≡ wave.now.claims) }
+    ensures own { result.0.claims ≡ wave.now.claims }
     ensures told { OnOk result.1 (WasToldOfAll wave.now.claims.counts result.0) }
     ensures results { OnOk result.1 (AreResults (plan_of B.blocks wave.now) result.0.drawn results.new.items) }
     ensures exact { OnOk result.1 (SpentOnMore (B.blocks wave.now.runner.now) (B.spent kept.old) (B.spent kept.new) [] results.new.items) }
     ensures lent { B.lends wave.now.runner.now kept.new }
-    ensures few { SpentWithinAll (plan_of B.blocks wave.now) (B.spent kept.old) (B.spent kept.new) }
+    ensures few { SpentOnDraws (plan_of B.blocks wave.now) (B.spent kept.old) (B.spent kept.new) [] result.0.drawn }
     ensures fault { IfErr result.1 (λ fault. HasCause (B.caused wave.now.runner.now) fault) }
 {
     let (seat, end) = spend_parts(rt, alloc, wave, own, wave.parts, seat, kept, results);
@@ -101,13 +101,13 @@ fn spend_parts<K, B: RunsBlock<K>, R: Wait>(
     requires untold { (part : ℕ) → first ≤ part → part < end → ¬ Contains seat.told part }
     requires results { AreResults (plan_of B.blocks wave.now) seat.drawn results.old.items }
     requires lent { B.lends wave.now.runner.now kept.old }
-    requires room { WithinRoom (plan_of B.blocks wave.now) (B.spent kept.old) results.old.items }
-    ensures own { OnOk result.1 (result.0.claims ≡ wave.now.claims) }
+    requires room { WithinRoom (plan_of B.blocks wave.now) (B.spent kept.old) seat.drawn }
+    ensures own { result.0.claims ≡ wave.now.claims }
     ensures told { OnOk result.1 (result.0.told ≡ seat.told ++ range_with_len first (end - first)) }
     ensures results { OnOk result.1 (AreResults (plan_of B.blocks wave.now) result.0.drawn results.new.items) }
     ensures exact { OnOk result.1 (SpentOnMore (B.blocks wave.now.runner.now) (B.spent kept.old) (B.spent kept.new) results.old.items results.new.items) }
     ensures lent { B.lends wave.now.runner.now kept.new }
-    ensures few { SpentOnFew (plan_of B.blocks wave.now) (B.spent kept.old) (B.spent kept.new) results.old.items }
+    ensures few { SpentOnDraws (plan_of B.blocks wave.now) (B.spent kept.old) (B.spent kept.new) seat.drawn result.0.drawn }
     ensures fault { IfErr result.1 (λ fault. HasCause (B.caused wave.now.runner.now) fault) }
 {
     for part in first..end {
@@ -137,13 +137,13 @@ fn spend<K, B: RunsBlock<K>, R: Wait>(
     requires untold { ¬ Contains seat.told part }
     requires results { AreResults (plan_of B.blocks wave.now) seat.drawn results.old.items }
     requires lent { B.lends wave.now.runner.now kept.old }
-    requires room { WithinRoom (plan_of B.blocks wave.now) (B.spent kept.old) results.old.items }
-    ensures own { OnOk result.1 (result.0.claims ≡ wave.now.claims) }
+    requires room { WithinRoom (plan_of B.blocks wave.now) (B.spent kept.old) seat.drawn }
+    ensures own { result.0.claims ≡ wave.now.claims }
     ensures told { OnOk result.1 (result.0.told ≡ seat.told ++ part ∷ []) }
     ensures results { OnOk result.1 (AreResults (plan_of B.blocks wave.now) result.0.drawn results.new.items) }
     ensures exact { OnOk result.1 (SpentOnMore (B.blocks wave.now.runner.now) (B.spent kept.old) (B.spent kept.new) results.old.items results.new.items) }
     ensures lent { B.lends wave.now.runner.now kept.new }
-    ensures few { SpentOnFew (plan_of B.blocks wave.now) (B.spent kept.old) (B.spent kept.new) results.old.items }
+    ensures few { SpentOnDraws (plan_of B.blocks wave.now) (B.spent kept.old) (B.spent kept.new) seat.drawn result.0.drawn }
     ensures fault { IfErr result.1 (λ fault. HasCause (B.caused wave.now.runner.now) fault) }
 {
     for _ in rt.forever() {

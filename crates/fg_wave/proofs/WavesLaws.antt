@@ -1,5 +1,5 @@
 -- What came of some blocks, and of the next ones, is what came of all these.
-use Rattle.std.proofs.Common.{◌≡◌, ℕ, zero, suc, ◌+◌, ◌-◌, ◌^◌, ◌<◌, ◌≤◌, Option, None, List, [], ◌∷◌, ◌++◌, map, length, get_or, refl, sym, ap, ap₂, subst, ◌∙◌, arith, append_assoc, IsPermutation}
+use Rattle.std.proofs.Common.{◌≡◌, ℕ, zero, suc, ◌+◌, ◌-◌, ◌^◌, ◌<◌, ◌≤◌, Option, None, List, [], ◌∷◌, ◌++◌, map, length, refl, sym, ap, ap₂, subst, ◌∙◌, arith, append_assoc, IsPermutation}
 use Rattle.std.proofs.lemmas.Grind.{flat_map-append}
 use Rattle.std.proofs.lemmas.List.{append-nil, map-append}
 use Rattle.std.proofs.lemmas.List.Elements.{All-head}
@@ -9,17 +9,17 @@ use Rattle.std.proofs.lemmas.List.Sums.{sum_by-append}
 use Rattle.std.specs.Prelude.{All, IsSome}
 use Rattle.std.specs.List.{range_with_len, sum_by}
 use Rattle.fg_base.specs.declared.plain.BadEdge.{BadEdge}
-use Rattle.fg_crew.specs.Wave.{HasRoomForAll, SpentWithin, block_at, blocks_in, in_all}
+use Rattle.fg_crew.specs.Wave.{EachSpentWithin, HasRoomForAll, block_at, blocks_in, in_all}
 use Rattle.fg_crew.specs.declared.slot.Slot.{Slot}
 use Rattle.fg_gather.specs.Arrivals.{HasCome}
 use Rattle.fg_model.specs.declared.mail.Mail.{Mail}
 use Rattle.fg_model.specs.Program.{Rules}
 use Rattle.fg_part.specs.declared.part_map.PartMap.{PartMap}
 use Rattle.fg_task.specs.Blocks.{Blocks}
-use Rattle.fg_task.specs.Spending.{Counted, HasRoom}
+use Rattle.fg_task.specs.Spending.{Counted, HasRoom, SpentInAllUpTo}
 use Rattle.fg_wave.specs.declared.told.Told.{Told}
 use Rattle.fg_wave.specs.Telling.{first_some}
-use Rattle.fg_wave.specs.Waves.{HasRoomForList, IsTold, MoreCame, SpentAsTold, SpentOnList}
+use Rattle.fg_wave.specs.Waves.{EachSpentOnList, HasRoomForList, IsTold, MoreCame, SpentAsTold}
 use Rattle.fg_wave.proofs.TellingLaws.{first-past, first-stays, no-edge}
 
 ranges : (from front back : ℕ) → range_with_len from (front + back) ≡ range_with_len from front ++ range_with_len (from + front) back
@@ -183,15 +183,11 @@ module _ (blocks : Blocks) where
 
 -- what the workers spent so far, and what they have room for
 module _ {K F : Type 0} (blocks : Blocks) (list : List ℕ) (spent : K → Counted) where
-  abbrev pub SpentInEach : ℕ → ℕ → List (Slot K F) → List (Slot K F) → Type 0
-  SpentInEach from to old new =
-      (k : ℕ) (d : Slot K F) → k < length old → SpentWithin blocks list from to (spent (get_or old k d).kept) (spent (get_or new k d).kept)
-
   abbrev HasRoomAt : Slot K F → Type 0
   HasRoomAt slot = HasRoomForList blocks list (spent slot.kept)
 
-  pub each-then : (from to : ℕ) → from ≤ to → (old middle new : List (Slot K F)) → length middle ≡ length old → SpentInEach 0 from old middle → SpentInEach from to middle new
-      → SpentInEach 0 to old new
+  pub each-then : (from to : ℕ) → from ≤ to → (old middle new : List (Slot K F)) → length middle ≡ length old → EachSpentWithin spent blocks list 0 from old middle → EachSpentWithin spent blocks list from to middle new
+      → EachSpentWithin spent blocks list 0 to old new
   each-then from to ordered old middle new count first rest k d below =
       let one = first k d below in
       let next = rest k d (omega (arith, below, count)) in
@@ -200,8 +196,8 @@ module _ {K F : Type 0} (blocks : Blocks) (list : List ℕ) (spent : K → Count
         few_entries = omega (arith, one.few_entries, next.few_entries, in_all-then list blocks.needed_of from to ordered);
       }
 
-  pub each-whole : (to : ℕ) → to ≤ length list → (old new : List (Slot K F)) → SpentInEach 0 to old new
-      → (k : ℕ) (d : Slot K F) → k < length old → SpentOnList blocks list (spent (get_or old k d).kept) (spent (get_or new k d).kept)
+  pub each-whole : (to : ℕ) → to ≤ length list → (old new : List (Slot K F)) → EachSpentWithin spent blocks list 0 to old new
+      → EachSpentOnList spent blocks list old new
   each-whole to inside old new few k d below =
       let one = few k d below in
       record {
@@ -209,7 +205,7 @@ module _ {K F : Type 0} (blocks : Blocks) (list : List ℕ) (spent : K → Count
         few_entries = omega (arith, one.few_entries, in_all-within list blocks.needed_of to inside);
       }
 
-  pub room-next : (from to : ℕ) → from ≤ to → to ≤ length list → (old middle : List (Slot K F)) → length middle ≡ length old → SpentInEach 0 from old middle
+  pub room-next : (from to : ℕ) → from ≤ to → to ≤ length list → (old middle : List (Slot K F)) → length middle ≡ length old → EachSpentWithin spent blocks list 0 from old middle
       → All HasRoomAt old → All (λ (slot : Slot K F). HasRoomForAll blocks list from to (spent slot.kept)) middle
   room-next from to ordered inside old middle count few room k d below =
       let under : k < length old = omega (arith, below, count) in
@@ -219,6 +215,21 @@ module _ {K F : Type 0} (blocks : Blocks) (list : List ℕ) (spent : K → Count
         for_runs = omega (arith, one.few_runs, has.for_runs, in_all-then list blocks.active_of from to ordered, in_all-within list blocks.active_of to inside);
         for_entries = omega (arith, one.few_entries, has.for_entries, in_all-then list blocks.needed_of from to ordered, in_all-within list blocks.needed_of to inside);
       }
+
+-- and what all of them spent together
+module _ (blocks : Blocks) (list : List ℕ) where
+  pub sum-then : (from to : ℕ) → from ≤ to → (old middle new : List Counted) → SpentInAllUpTo blocks (blocks_in list 0 from) old middle → SpentInAllUpTo blocks (blocks_in list from to) middle new
+      → SpentInAllUpTo blocks (blocks_in list 0 to) old new
+  sum-then from to ordered old middle new first rest = record {
+    few_runs = omega (arith, first.few_runs, rest.few_runs, in_all-then list blocks.active_of from to ordered);
+    few_entries = omega (arith, first.few_entries, rest.few_entries, in_all-then list blocks.needed_of from to ordered);
+  }
+
+  pub sum-whole : (to : ℕ) → to ≤ length list → (old new : List Counted) → SpentInAllUpTo blocks (blocks_in list 0 to) old new → SpentInAllUpTo blocks list old new
+  sum-whole to inside old new few = record {
+    few_runs = omega (arith, few.few_runs, in_all-within list blocks.active_of to inside);
+    few_entries = omega (arith, few.few_entries, in_all-within list blocks.needed_of to inside);
+  }
 
 -- so much can be counted, since there is a worker who has room for it
 pub some-count : {K F : Type 0} (spent : K → Counted) (runs entries : ℕ) (slots : List (Slot K F)) → 0 < length slots

@@ -1,12 +1,13 @@
 -- What comes of running the blocks of a list, in waves.
-use Rattle.std.specs.Prelude.{◌≡◌, ℕ, ◌+◌, ◌≤◌, ◌++◌, true, Option, None, List, IsPermutation, map as each}
+use Rattle.std.specs.Prelude.{◌≡◌, ℕ, ◌+◌, ◌<◌, ◌≤◌, ◌++◌, true, Option, None, List, IsPermutation, length, map as each, slice_index_or}
 use Rattle.std.specs.List.{flat_map, sum_by}
+use Rattle.fg_crew.specs.declared.slot.Slot.{Slot}
 use Rattle.fg_gather.specs.Arrivals.{HasCome}
 use Rattle.fg_model.specs.declared.mail.Mail.{Mail}
 use Rattle.fg_model.specs.Program.{Rules}
 use Rattle.fg_part.specs.declared.part_map.PartMap.{PartMap}
 use Rattle.fg_task.specs.Blocks.{Blocks}
-use Rattle.fg_task.specs.Spending.{Counted, HasRoom, SpentUpTo}
+use Rattle.fg_task.specs.Spending.{Counted, HasRoom, SpentOnList}
 use Rattle.fg_wave.specs.declared.told.Told.{Told}
 use Rattle.fg_wave.specs.Telling.{first_some}
 
@@ -14,9 +15,10 @@ use Rattle.fg_wave.specs.Telling.{first_some}
 abbrev pub HasRoomForList : Blocks → List ℕ → Counted → Type 0
 HasRoomForList blocks list spent = HasRoom spent (sum_by blocks.active_of list) (sum_by blocks.needed_of list)
 
--- no more was counted than all these blocks ask for
-abbrev pub SpentOnList : Blocks → List ℕ → Counted → Counted → Type 0
-SpentOnList blocks list old new = SpentUpTo old new (sum_by blocks.active_of list) (sum_by blocks.needed_of list)
+-- each worker counted no more than all these blocks ask for
+abbrev pub EachSpentOnList : {K F : Type 0} → (K → Counted) → Blocks → List ℕ → List (Slot K F) → List (Slot K F) → Type 0
+EachSpentOnList spent blocks list old new =
+    (k : ℕ) (d : Slot _ _) → k < length old → SpentOnList blocks list (spent (slice_index_or old k d).kept) (spent (slice_index_or new k d).kept)
 
 -- What these blocks told: just what they come to together where none has a bad edge, else no more, and the first bad edge in their order.
 pub record IsTold (blocks : Blocks) (list : List ℕ) (told : Told) : Type 0 where

@@ -1,13 +1,14 @@
 //! The waves of an iteration, one after the other.
 
-ghost use Rattle.std.specs.Prelude.{◌≡◌, ℕ, ◌+◌, ◌<◌, ◌≤◌, All, IfErr, IfOk, length, map as each, slice_index_or};
+ghost use Rattle.std.specs.Prelude.{◌≡◌, ◌+◌, ◌<◌, ◌≤◌, All, IfErr, IfOk, length, map as each};
 ghost use Rattle.std.specs.List.Sorted.{IsStrictlyIncreasing};
 ghost use Rattle.fg_base.specs.declared.limits.TheConstants.{MAX_VERTICES, MAX_WORKERS};
-ghost use Rattle.fg_crew.specs.Wave.{HasRoomForAll, SpentWithin, blocks_in};
+ghost use Rattle.fg_crew.specs.Wave.{EachSpentWithin, HasRoomForAll, blocks_in};
 ghost use Rattle.fg_part.specs.PartMap.{block_total};
 ghost use Rattle.fg_task.specs.Blocks.{HasCause};
+ghost use Rattle.fg_task.specs.Spending.{SpentInAllUpTo};
 ghost use Rattle.fg_wave.specs.Cutting.{AreWeights, IsBounded};
-ghost use Rattle.fg_wave.specs.Waves.{HasRoomForList, IsTold, MoreCame, SpentAsTold, SpentOnList};
+ghost use Rattle.fg_wave.specs.Waves.{EachSpentOnList, HasRoomForList, IsTold, MoreCame, SpentAsTold};
 
 use crate::cutting::wave_end;
 use crate::telling::tell;
@@ -53,8 +54,9 @@ pub fn run_waves<P: Program + Sync, K: Send, B: RunsBlock<K> + Sync, R: Threads 
     // at every answer
     ensures count { length slots.new ≡ length slots.old }
     ensures lent { All (λ slot. B.lends runner.now slot.kept) slots.new }
-    ensures few { (k : ℕ) (d : _) → k < length slots.old → SpentOnList (B.blocks runner.now) list.now
-        (B.spent (slice_index_or slots.old k d).kept) (B.spent (slice_index_or slots.new k d).kept) }
+    ensures few { EachSpentOnList B.spent (B.blocks runner.now) list.now slots.old slots.new }
+    ensures few_in_all { SpentInAllUpTo (B.blocks runner.now) list.now
+        (each (λ slot. B.spent slot.kept) slots.old) (each (λ slot. B.spent slot.kept) slots.new) }
     ensures program { inboxes.new.program ≡ inboxes.old.program }
     ensures inbox_map { inboxes.new.map ≡ inboxes.old.map }
     ensures fault { IfErr result (λ fault. HasCause (B.caused runner.now) fault) }
@@ -104,8 +106,9 @@ fn run_wave<P: Program + Sync, K: Send, B: RunsBlock<K> + Sync, R: Threads + Wai
         (each (λ slot. B.spent slot.kept) slots.old) (each (λ slot. B.spent slot.kept) slots.new) told) }
     ensures count { length slots.new ≡ length slots.old }
     ensures lent { All (λ slot. B.lends runner.now slot.kept) slots.new }
-    ensures few { (k : ℕ) (d : _) → k < length slots.old → SpentWithin (B.blocks runner.now) list.now from to
-        (B.spent (slice_index_or slots.old k d).kept) (B.spent (slice_index_or slots.new k d).kept) }
+    ensures few { EachSpentWithin B.spent (B.blocks runner.now) list.now from to slots.old slots.new }
+    ensures few_in_all { SpentInAllUpTo (B.blocks runner.now) (blocks_in list.now from to)
+        (each (λ slot. B.spent slot.kept) slots.old) (each (λ slot. B.spent slot.kept) slots.new) }
     ensures program { inboxes.new.program ≡ inboxes.old.program }
     ensures inbox_map { inboxes.new.map ≡ inboxes.old.map }
     ensures fault { IfErr result (λ fault. HasCause (B.caused runner.now) fault) }

@@ -34,6 +34,7 @@ loop-seat-preserved g c =
     record {
       within = omega (arith, more, inv.within, length-set slots i next);
       seats = popped.0;
+      room = c.pop.ensures.capacity ∙ inv.room;
       kept = map-set_same (λ slot. slot.kept) slots i next c.index-slots-len.result below c.seat_one.ensures.kept ∙ inv.kept;
       fresh = λ k d above under.
           seated c.args.claims.now slots i next below c.seat_one.ensures.fresh (λ j e over inside. inv.fresh j e (omega (arith, over, more, place)) inside)

@@ -2,7 +2,7 @@ use Rattle.std.proofs.Common.{ℕ, ◌-◌, List, subst, arith}
 use Rattle.std.specs.List.{Contains}
 use Rattle.fg_crew.specs.Claimed.{plan_of}
 use Rattle.fg_crew.proofs.CaseLaws.{on_ok}
-use Rattle.fg_crew.proofs.SpendLaws.{few-so_far, room-later}
+use Rattle.fg_crew.proofs.SpendLaws.{draws-then, room-later}
 use Rattle.fg_crew.proofs.SpendingLaws.{spent-then}
 use Rattle.fg_crew.proofs.TellingLaws.{not_yet, told-more}
 use Rattle.fg_crew.proofs.working.spend_parts.Goals as goal
@@ -17,7 +17,8 @@ spend-next-requires-clause-untold g c κs within found =
 pub spend-next-requires-clause-room : goal.spend-next-requires-clause-room
 spend-next-requires-clause-room g c κs within =
     let runs = g.B.RunsBlock in
-    room-later (plan_of runs.blocks c.args.wave.now) (runs.spent c.args.kept.now) (runs.spent c.loop-part.kept) c.args.results.now.items c.loop-part.results.items c.loop-part.invariant.exact c.requires.room
+    room-later (plan_of runs.blocks c.args.wave.now) (runs.spent c.args.kept.now) (runs.spent c.loop-part.kept) c.args.seat.drawn c.loop-part.seat.drawn c.loop-part.invariant.few
+    c.requires.room
 
 pub loop-part-preserved : goal.loop-part-preserved
 loop-part-preserved g c =
@@ -30,16 +31,18 @@ loop-part-preserved g c =
     let exact = on_ok ended nothing c.in-Ok.is spent.exact in
     record {
       above = omega (arith, inv.above);
-      own = on_ok ended nothing c.in-Ok.is spent.own;
+      own = spent.own;
       told = told-more c.args.seat.told c.loop-part.seat.told c.spend-next.result.0.told c.args.first c.loop-part.part inv.above inv.told told;
       results = on_ok ended nothing c.in-Ok.is spent.results;
+      few = draws-then (plan_of runs.blocks c.args.wave.now) (runs.spent c.args.kept.now) (runs.spent c.loop-part.kept) c.args.seat.drawn c.loop-part.seat.drawn inv.few
+          (runs.spent c.spend-next.new.kept) c.spend-next.result.0.drawn spent.few;
       lent = spent.lent;
       exact = spent-then (runs.blocks c.args.wave.now.runner.now) (runs.spent c.args.kept.now) (runs.spent c.loop-part.kept) (runs.spent c.spend-next.new.kept)
           c.args.results.now.items c.loop-part.results.items c.spend-next.new.results.items inv.exact exact;
     }
 
-pub returns-clause-few : goal.returns-clause-few
-returns-clause-few g c =
+pub returns-in-Err-clause-few : goal.returns-in-Err-clause-few
+returns-in-Err-clause-few g c =
     let runs = g.B.RunsBlock in
-    few-so_far (plan_of runs.blocks c.args.wave.now) (runs.spent c.args.kept.now) (runs.spent c.loop-part.kept) c.args.results.now.items c.loop-part.results.items c.loop-part.invariant.exact
-    c.requires.dealt c.loop-part.seat.drawn c.loop-part.invariant.results
+    draws-then (plan_of runs.blocks c.args.wave.now) (runs.spent c.args.kept.now) (runs.spent c.loop-part.kept) c.args.seat.drawn c.loop-part.seat.drawn c.loop-part.invariant.few
+    (runs.spent c.spend-next.new.kept) c.spend-next.result.0.drawn c.spend-next.ensures.few

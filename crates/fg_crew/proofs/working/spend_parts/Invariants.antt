@@ -1,6 +1,6 @@
 use Rattle.std.proofs.Common.{◌≡◌, ◌-◌, ◌≤◌, ◌++◌}
 use Rattle.std.specs.List.{range_with_len}
-use Rattle.fg_crew.specs.Claimed.{AreResults, plan_of}
+use Rattle.fg_crew.specs.Claimed.{AreResults, SpentOnDraws, plan_of}
 use Rattle.fg_task.specs.Spending.{SpentOnMore}
 use Rattle.fg_crew.proofs.working.spend_parts.Given as goal
 
@@ -12,6 +12,7 @@ invariant-loop-part g l =
       own : l.seat.claims ≡ l.wave.claims;
       told : l.seat.told ≡ l.fn.seat.told ++ range_with_len l.first (l.part - l.first);
       results : AreResults (plan_of runs.blocks l.wave) l.seat.drawn l.results.items;
+      few : SpentOnDraws (plan_of runs.blocks l.wave) (runs.spent l.fn.kept) (runs.spent l.kept) l.fn.seat.drawn l.seat.drawn;
       lent : runs.lends l.wave.runner.now l.kept;
       exact : SpentOnMore (runs.blocks l.wave.runner.now) (runs.spent l.fn.kept) (runs.spent l.kept) l.fn.results.items l.results.items;
     }

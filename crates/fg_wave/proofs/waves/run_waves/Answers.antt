@@ -4,7 +4,7 @@ use Rattle.std.specs.List.{sum_by}
 use Rattle.fg_crew.specs.Wave.{blocks_in}
 use Rattle.fg_wave.specs.Waves.{IsTold, MoreCame, SpentAsTold}
 use Rattle.fg_wave.proofs.WavesLaws.{blocks-all, came-end, came-none, came-to, each-then, each-whole, in_all-then, in_all-within, room-next, some-count}
-use Rattle.fg_wave.proofs.WavesLaws.{spent-end, spent-none, spent-to, told-end, told-none, told-to}
+use Rattle.fg_wave.proofs.WavesLaws.{spent-end, spent-none, spent-to, sum-then, sum-whole, told-end, told-none, told-to}
 use Rattle.fg_wave.proofs.waves.run_waves.Goals as goal
 
 pub loop-from-init : goal.loop-from-init
@@ -20,6 +20,7 @@ loop-from-init g c =
       count = refl;
       lent = c.requires.lent;
       few = λ k d below. record { few_runs = omega arith; few_entries = omega arith };
+      few_in_all = record { few_runs = omega arith; few_entries = omega arith };
       program = refl;
       inbox_map = refl;
     }
@@ -44,6 +45,15 @@ returns-in-Err-clause-few g c =
     each-whole blocks c.args.list.now runs.spent c.wave_end-to.result (omega arith) c.args.slots.now c.run_wave.new.slots
     (each-then blocks c.args.list.now runs.spent c.loop-from.from c.wave_end-to.result (omega arith) c.args.slots.now c.loop-from.slots c.run_wave.new.slots
     c.loop-from.invariant.count c.loop-from.invariant.few c.in-Err.ensures.few)
+
+pub returns-in-Err-clause-few_in_all : goal.returns-in-Err-clause-few_in_all
+returns-in-Err-clause-few_in_all g c =
+    let runs = g.B.RunsBlock in
+    let blocks = runs.blocks c.args.runner.now in
+    let list = c.args.list.now in
+    sum-whole blocks list c.wave_end-to.result (omega arith) (map (λ slot. runs.spent slot.kept) c.args.slots.now) (map (λ slot. runs.spent slot.kept) c.run_wave.new.slots)
+    (sum-then blocks list c.loop-from.from c.wave_end-to.result (omega arith) (map (λ slot. runs.spent slot.kept) c.args.slots.now) (map (λ slot. runs.spent slot.kept) c.loop-from.slots)
+    (map (λ slot. runs.spent slot.kept) c.run_wave.new.slots) c.loop-from.invariant.few_in_all c.in-Err.ensures.few_in_all)
 
 pub then-told-requires-clause-active : goal.then-told-requires-clause-active
 then-told-requires-clause-active g c =
@@ -103,6 +113,15 @@ returns-then-is_some-clause-few g c =
     (each-then blocks c.args.list.now runs.spent c.loop-from.from c.wave_end-to.result (omega arith) c.args.slots.now c.loop-from.slots c.run_wave.new.slots
     c.loop-from.invariant.count c.loop-from.invariant.few c.in-Ok.ensures.few)
 
+pub returns-then-is_some-clause-few_in_all : goal.returns-then-is_some-clause-few_in_all
+returns-then-is_some-clause-few_in_all g c =
+    let runs = g.B.RunsBlock in
+    let blocks = runs.blocks c.args.runner.now in
+    let list = c.args.list.now in
+    sum-whole blocks list c.wave_end-to.result (omega arith) (map (λ slot. runs.spent slot.kept) c.args.slots.now) (map (λ slot. runs.spent slot.kept) c.run_wave.new.slots)
+    (sum-then blocks list c.loop-from.from c.wave_end-to.result (omega arith) (map (λ slot. runs.spent slot.kept) c.args.slots.now) (map (λ slot. runs.spent slot.kept) c.loop-from.slots)
+    (map (λ slot. runs.spent slot.kept) c.run_wave.new.slots) c.loop-from.invariant.few_in_all c.in-Ok.ensures.few_in_all)
+
 pub loop-from-preserved : goal.loop-from-preserved
 loop-from-preserved g c =
     let runs = g.B.RunsBlock in
@@ -124,6 +143,8 @@ loop-from-preserved g c =
       lent = c.in-Ok.ensures.lent;
       few = each-then blocks list runs.spent c.loop-from.from c.wave_end-to.result (omega arith) c.args.slots.now c.loop-from.slots c.run_wave.new.slots
           c.loop-from.invariant.count c.loop-from.invariant.few c.in-Ok.ensures.few;
+      few_in_all = sum-then blocks list c.loop-from.from c.wave_end-to.result (omega arith) (map (λ slot. runs.spent slot.kept) c.args.slots.now)
+          (map (λ slot. runs.spent slot.kept) c.loop-from.slots) (map (λ slot. runs.spent slot.kept) c.run_wave.new.slots) c.loop-from.invariant.few_in_all c.in-Ok.ensures.few_in_all;
       program = c.in-Ok.ensures.program ∙ c.loop-from.invariant.program;
       inbox_map = c.in-Ok.ensures.inbox_map ∙ c.loop-from.invariant.inbox_map;
     }
@@ -153,3 +174,9 @@ pub returns-clause-few : goal.returns-clause-few
 returns-clause-few g c =
     let runs = g.B.RunsBlock in
     each-whole (runs.blocks c.args.runner.now) c.args.list.now runs.spent c.loop-from.from (omega arith) c.args.slots.now c.loop-from.slots c.loop-from.invariant.few
+
+pub returns-clause-few_in_all : goal.returns-clause-few_in_all
+returns-clause-few_in_all g c =
+    let runs = g.B.RunsBlock in
+    sum-whole (runs.blocks c.args.runner.now) c.args.list.now c.loop-from.from (omega arith) (map (λ slot. runs.spent slot.kept) c.args.slots.now)
+    (map (λ slot. runs.spent slot.kept) c.loop-from.slots) c.loop-from.invariant.few_in_all

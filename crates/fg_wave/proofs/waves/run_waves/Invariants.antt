@@ -1,8 +1,8 @@
 use Rattle.std.proofs.Common.{◌≡◌, ◌-◌, ◌≤◌, None, length, map}
 use Rattle.std.specs.Prelude.{All}
-use Rattle.fg_crew.specs.Wave.{blocks_in}
+use Rattle.fg_crew.specs.Wave.{EachSpentWithin, blocks_in}
+use Rattle.fg_task.specs.Spending.{SpentInAllUpTo}
 use Rattle.fg_wave.specs.Waves.{IsTold, MoreCame, SpentAsTold}
-use Rattle.fg_wave.proofs.WavesLaws.{SpentInEach}
 use Rattle.fg_wave.proofs.waves.run_waves.Given as goal
 
 abbrev pub invariant-loop-from : goal.invariant-loop-from
@@ -18,7 +18,8 @@ invariant-loop-from g l =
       exact : SpentAsTold blocks ran (map (λ slot. runs.spent slot.kept) l.fn.slots) (map (λ slot. runs.spent slot.kept) l.slots) l.told;
       count : length l.slots ≡ length l.fn.slots;
       lent : All (λ slot. runs.lends l.runner slot.kept) l.slots;
-      few : SpentInEach blocks l.list runs.spent 0 l.from l.fn.slots l.slots;
+      few : EachSpentWithin runs.spent blocks l.list 0 l.from l.fn.slots l.slots;
+      few_in_all : SpentInAllUpTo blocks ran (map (λ slot. runs.spent slot.kept) l.fn.slots) (map (λ slot. runs.spent slot.kept) l.slots);
       program : l.inboxes.program ≡ l.fn.inboxes.program;
       inbox_map : l.inboxes.map ≡ l.fn.inboxes.map;
     }
