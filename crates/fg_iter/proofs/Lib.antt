@@ -1,0 +1,14 @@
+pub mod ListLaws
+pub mod BlockLaws
+pub mod MarkedLaws
+pub mod RingLaws
+pub mod RunLaws
+pub mod SentLaws
+pub mod GoingLaws
+pub mod JoinedLaws
+pub mod EndLaws
+pub mod EngineLaws
+pub mod SettleLaws
+pub mod CrewLaws
+pub mod LentLaws
+pub mod StepLaws
