@@ -14,6 +14,13 @@ def text_on(edges, program, argument, most=2**32 - 1, n=None, **options):
     return text_of(program, argument, len(outs), outs, sum(map(len, outs)), most, **options)
 
 
+def engine_words(drawn):
+    """How a run is done, which its text doesn't show."""
+    ways = drawn.choice((1, 2, 16))
+    return (f'--workers {drawn.choice((1, 2, 5, 8))} --sets {drawn.choice((1, 3, 512))} --ways {ways}'
+            f' --depth {drawn.choice((1, 2, 64))} --shift {drawn.choice((0, 1, 6, 16))}' + ' --helpers' * (drawn.random() < .3))
+
+
 def graphs(seed):
     """Each program on a random graph, over several drives, from pages and in memory."""
     drawn = random.Random(seed)
@@ -31,7 +38,7 @@ def graphs(seed):
         each, quiet = drawn.random() < .3, drawn.random() < .3
         text = text_on(edges, program, argument, most, n, each=each, quiet=quiet)
         words = f'--program {program}{given} --max {most}' + ' --each' * each + ' --quiet' * quiet
-        for command in ('run', 'ref'):
+        for command in (f'run {engine_words(drawn)}', 'ref'):
             yield prints(f'random graph {seed}: {command} {program} over {drives} drives',
                          f'{command} {words} {names(drives)}', text, files)
     line = built_line(image_of(edges, n), drives).replace('built', 'checked')
@@ -141,10 +148,11 @@ def generated_rows(seed):
 
 
 def large_row():
-    """A million generated edges: the same text at each run and over any number of drives."""
+    """A million generated edges: the same text at each run, over any number of drives and by any number of workers."""
     words = 'large --start 1 --nodes 100000 --edges 1000000 --program bfs --source 0'
     text = sum_of(1, 100000, 1000000, False, 'bfs', 0)
-    calls = [Call(words + drives, text) for drives in ('', '', ' --drives 1', ' --drives 16')]
+    ways = ('', '', ' --drives 1', ' --drives 16', *(f' --workers {workers}' for workers in (1, 2, 8)), ' --sets 1 --ways 1 --workers 8')
+    calls = [Call(words + way, text) for way in ways]
     return Row('a million generated edges', calls)
 
 

@@ -135,13 +135,19 @@ const REFUSALS: [(Refusal, &str); 22] = [
 ];
 
 /// Each option, and its line where its value isn't in range.
-const OPTIONS: [(Opt, &str); 15] = [
+const OPTIONS: [(Opt, &str); 21] = [
     (Opt::Program, "refused: words range program\n"),
     (Opt::Source, "refused: words range source\n"),
     (Opt::Max, "refused: words range max\n"),
     (Opt::Cut, "refused: words range cut\n"),
     (Opt::Each, "refused: words range each\n"),
     (Opt::Quiet, "refused: words range quiet\n"),
+    (Opt::Workers, "refused: words range workers\n"),
+    (Opt::Sets, "refused: words range sets\n"),
+    (Opt::Ways, "refused: words range ways\n"),
+    (Opt::Depth, "refused: words range depth\n"),
+    (Opt::Shift, "refused: words range shift\n"),
+    (Opt::Helpers, "refused: words range helpers\n"),
     (Opt::Unit, "refused: words range unit\n"),
     (Opt::Number, "refused: words range number\n"),
     (Opt::Undirected, "refused: words range undirected\n"),

@@ -133,11 +133,11 @@ stands told runs entries status =
 pub tally_still : (D : Type 0) (job : Job) (told : Option (List (List ℕ))) (runs entries status : ℕ) → is_still job ≡ true →
     KeepsTally (promise_of {D = D} job).of_tally told (tallied runs runs entries entries) status
 tally_still D (Job.Build unit number undirected) told runs entries status still = stands told runs entries status
-tally_still D (Job.Run pick max each quiet) told runs entries status still = cc
+tally_still D (Job.Run pick max each quiet workers sets ways depth shift helpers) told runs entries status still = cc
 tally_still D (Job.Ref pick max each quiet) told runs entries status still = stands told runs entries status
 tally_still D Job.Check told runs entries status still = stands told runs entries status
 tally_still D (Job.Gen start nodes edges) told runs entries status still = stands told runs entries status
-tally_still D (Job.Large pick max unit undirected start nodes edges drives) told runs entries status still = cc
+tally_still D (Job.Large pick max workers sets ways depth shift helpers unit undirected start nodes edges drives) told runs entries status still = cc
 
 pub tally_wrong : (D : Type 0) (words : List (List ℕ)) (fault : WordFault) (told : Option (List (List ℕ))) (output : Output) (runs entries status : ℕ) →
     job_of words ≡ Err fault → IsWritten output (Some (Refusal.Words fault)) (refusal_line (Refusal.Words fault)) status →

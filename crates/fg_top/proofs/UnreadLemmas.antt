@@ -151,7 +151,7 @@ allows_job (Job.Build unit number undirected) tells olds left faults output stat
       takes = took_none left;
       counts = inl refl;
     }
-allows_job (Job.Run pick max each quiet) tells olds left faults output status = record {
+allows_job (Job.Run pick max each quiet workers sets ways depth shift helpers) tells olds left faults output status = record {
   cut = cut_at_once (wish_for pick max each quiet) (all_told tells.held olds) memory_line;
   leaves = held_same tells.held olds;
   leaves_at = held_same tells.held olds;
@@ -191,7 +191,7 @@ allows_job (Job.Gen start nodes edges) tells olds left faults output status = re
   takes = refl;
   counts = refl;
 }
-allows_job (Job.Large pick max unit undirected start nodes edges drives) tells olds left faults output status = record {
+allows_job (Job.Large pick max workers sets ways depth shift helpers unit undirected start nodes edges drives) tells olds left faults output status = record {
   cut = record {
     outcome = outcome_on (wish_for pick max false true) (generated_graph (recipe_for start nodes edges undirected));
     is_one = refl;
@@ -237,11 +237,11 @@ unbegun begins (Some helds) output runs entries status written =
 stands_by : (D : Type 0) (given : Result Job WordFault) (runs entries status : ℕ) → (promise_by {D = D} given).of_tally.stands status (tallied runs runs entries entries)
 stands_by D (Err fault) runs entries status = record { runs = refl; entries = refl }
 stands_by D (Ok (Job.Build unit number undirected)) runs entries status = record { runs = refl; entries = refl }
-stands_by D (Ok (Job.Run pick max each quiet)) runs entries status = λ refused. record { runs = refl; entries = refl }
+stands_by D (Ok (Job.Run pick max each quiet workers sets ways depth shift helpers)) runs entries status = λ refused. record { runs = refl; entries = refl }
 stands_by D (Ok (Job.Ref pick max each quiet)) runs entries status = record { runs = refl; entries = refl }
 stands_by D (Ok Job.Check) runs entries status = record { runs = refl; entries = refl }
 stands_by D (Ok (Job.Gen start nodes edges)) runs entries status = record { runs = refl; entries = refl }
-stands_by D (Ok (Job.Large pick max unit undirected start nodes edges drives)) runs entries status = λ refused. record { runs = refl; entries = refl }
+stands_by D (Ok (Job.Large pick max workers sets ways depth shift helpers unit undirected start nodes edges drives)) runs entries status = λ refused. record { runs = refl; entries = refl }
 
 pub tally_unread : (D : Type 0) (given : Result Job WordFault) (told : Option (List (List ℕ))) (output : Output) (runs entries status : ℕ) → IsWritten output (Some Refusal.Memory) memory_line status →
     KeepsTally (promise_by {D = D} given).of_tally told (tallied runs runs entries entries) status

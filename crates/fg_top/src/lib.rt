@@ -87,6 +87,7 @@ pub fn flash<R: Wait + Threads + Sync, S: Source, D: Drive + Send, K: Sink, T: T
             max,
             each,
             quiet,
+            ..
         } => run_job(alloc, Wish::new(pick, max, each, quiet), drives, out, tally),
         Job::Large {
             pick,
@@ -97,6 +98,7 @@ pub fn flash<R: Wait + Threads + Sync, S: Source, D: Drive + Send, K: Sink, T: T
             nodes,
             edges,
             drives: count,
+            ..
         } => {
             let wish = Wish::new(pick, max, false, true);
             let recipe = Recipe {

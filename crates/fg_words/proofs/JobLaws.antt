@@ -1,5 +1,5 @@
 -- Words without a fault give a job, whose numbers are within the limits and which has the drives that it works on.
-use Rattle.std.proofs.Common.{◌≡◌, ℕ, ◌≤◌, Bool, true, false, ◌&&◌, ◌||◌, not, nat_le, nat_lt, Option, Some, None, IfSome, Result, Ok, Err, List, [], ◌∷◌, if◌then◌else◌, find, suc, zero, is_ok, is_some, length, option_map, option_and_then, refl, sym, ◌∙◌, ap, subst, arith}
+use Rattle.std.proofs.Common.{◌≡◌, ℕ, ◌*◌, ◌≤◌, Bool, true, false, ◌&&◌, ◌||◌, not, nat_le, nat_lt, Option, Some, None, IfSome, Result, Ok, Err, List, [], ◌∷◌, if◌then◌else◌, find, suc, zero, is_ok, is_some, length, option_map, option_and_then, refl, sym, ◌∙◌, ap, subst, arith}
 use Rattle.std.proofs.lemmas.Bool.Decides.{nat_tests}
 use Rattle.std.proofs.lemmas.Option.{same_Some}
 use Rattle.std.specs.Option.{option_or}
@@ -7,7 +7,7 @@ use Rattle.std.specs.Prelude.{slice_get}
 use Rattle.std.specs.Str.Parse.{digits_value}
 use Rattle.clap.specs.Walk.{Row}
 use Rattle.fg_base.specs.declared.refusal.Opt.{Opt}
-use Rattle.fg_base.specs.declared.refusal.Opt.TheVariants.{Program, Source, Max, Cut, Unit as UnitPages, Start, Nodes, Edges, Drives, Drive}
+use Rattle.fg_base.specs.declared.refusal.Opt.TheVariants.{Program, Source, Max, Cut, Workers, Sets, Ways, Depth, Shift, Unit as UnitPages, Start, Nodes, Edges, Drives, Drive}
 use Rattle.fg_base.specs.declared.refusal.WordFault.{WordFault}
 use Rattle.fg_base.specs.declared.refusal.WordFault.TheVariants.{Parse, Extra, Missing, Range}
 use Rattle.fg_words.specs.declared.jobs.Job.{Job}
@@ -23,8 +23,8 @@ use Rattle.fg_words.specs.declared.said.Said.TheVariants.{Nothing, OutOfRange, V
 use Rattle.fg_words.specs.Options.{table}
 use Rattle.fg_words.specs.Grammar.{is_read, read}
 use Rattle.fg_words.specs.Reading.{command_in, drives_in, value_of}
-use Rattle.fg_words.specs.CommandLine.{command_of, fault_of, found, is_beyond, is_extra, is_missing, is_needed_by, is_number, is_out_of_range, is_taken_by, is_there, is_useful, is_vital, line_of, number_within, said, value_or}
-use Rattle.fg_words.specs.Jobs.{AreDrives, AreGenerable, HasDrives, IsPick, IsRun, IsUnit, JobFits}
+use Rattle.fg_words.specs.CommandLine.{command_of, fault_of, found, is_beyond, is_crowded, is_extra, is_missing, is_needed_by, is_number, is_out_of_range, is_taken_by, is_there, is_useful, is_vital, line_of, number_within, said, value_or}
+use Rattle.fg_words.specs.Jobs.{AreDrives, AreGenerable, HasDrives, IsEngine, IsPick, IsRun, IsUnit, JobFits}
 use Rattle.fg_words.specs.Words.{answer, answer_of, build_from, gen_from, job_from, job_of, judged, large_from, names_of, pick_of, picked, recipe_from, recipe_of, ref_from, run_from}
 
 absent : (b : Bool) (option : Opt) (rest : Option Opt) → (if b then Some option else rest) ≡ None → b ≡ false
@@ -98,16 +98,16 @@ picks command line needed none =
 -- They say how edges are generated where the command needs that.
 
 at_start : (p : Opt → Bool) → find p table ≡ None → p Start ≡ false
-at_start p none = clear_at p table 10 Start refl none
+at_start p none = clear_at p table 16 Start refl none
 
 at_nodes : (p : Opt → Bool) → find p table ≡ None → p Nodes ≡ false
-at_nodes p none = clear_at p table 11 Nodes refl none
+at_nodes p none = clear_at p table 17 Nodes refl none
 
 at_edges : (p : Opt → Bool) → find p table ≡ None → p Edges ≡ false
-at_edges p none = clear_at p table 12 Edges refl none
+at_edges p none = clear_at p table 18 Edges refl none
 
 at_drive : (p : Opt → Bool) → find p table ≡ None → p Drive ≡ false
-at_drive p none = clear_at p table 14 Drive refl none
+at_drive p none = clear_at p table 20 Drive refl none
 
 -- a value is there, within its range
 abbrev IsSaid : Said ℕ → Type 0
@@ -297,21 +297,87 @@ run_fits rows pick is =
     let line = line_of rows in
     (pick_fits line.program line.source line.cut pick (said_within 1 18446744073709551615 (value_of Cut rows)) is, most_fits (value_of Max rows))
 
-job_fits_by : (command : Command) (rows : List Row) (job : Job) → job_from command (line_of rows) ≡ Some job → JobFits job
-job_fits_by Build rows job is = subst JobFits (same_Some (build_from (line_of rows)) job is) (unit_fits (value_of UnitPages rows))
-job_fits_by Run rows job is =
-    let made = map_of (run_from (line_of rows)) (pick_of (line_of rows)) job is in subst JobFits made.2 (run_fits rows made.0 made.1)
-job_fits_by Ref rows job is =
+-- The engine of a run.
+
+-- so many sets of so many ways are no more than the frames of a cache
+abbrev AreFew : ℕ → ℕ → Type 0
+AreFew sets ways = sets * ways ≤ 262144
+
+few_frames_at : (number : Bool) (sets ways : ℕ) → number ≡ true → (number && nat_lt 262144 (sets * ways)) ≡ false → AreFew sets ways
+few_frames_at true sets ways is few = grind (arith, nat_tests)
+few_frames_at false sets ways is few = absurd (cc)
+
+-- the ways that a word gives within their range are its number
+few_frames_by : (number least most : Bool) (sets ways : ℕ) → is_out_of_range (found (if number && least && most then Some ways else None)) ≡ false →
+    (number && nat_lt 262144 (sets * ways)) ≡ false → AreFew sets (value_or (found (if number && least && most then Some ways else None)) 8)
+few_frames_by true true true sets ways inside few = few_frames_at true sets ways refl few
+few_frames_by true true false sets ways inside few = absurd (cc)
+few_frames_by true false most sets ways inside few = absurd (cc)
+few_frames_by false least most sets ways inside few = absurd (cc)
+
+few_frames : (sets : ℕ) (word : Option (List ℕ)) → is_out_of_range (said (number_within 1 16) word) ≡ false → is_crowded sets word ≡ false →
+    AreFew sets (value_or (said (number_within 1 16) word) 8)
+few_frames sets None inside few = grind (arith, nat_tests)
+few_frames sets (Some word) inside few =
+    let ways = digits_value 10 word in few_frames_by (is_number word) (nat_le 1 ways) (nat_le ways 16) sets ways inside few
+
+neither : (a b : Bool) → (a || b) ≡ false → b ≡ false
+neither true b none = absurd (cc)
+neither false b none = none
+
+at_sets : (p : Opt → Bool) → find p table ≡ None → p Sets ≡ false
+at_sets p none = clear_at p table 7 Sets refl none
+
+at_ways : (p : Opt → Bool) → find p table ≡ None → p Ways ≡ false
+at_ways p none = clear_at p table 8 Ways refl none
+
+line_few_frames : (command : Command) (rows : List Row) → fault_of command (line_of rows) ≡ None → AreFew (value_or (line_of rows).sets 64) (value_or (line_of rows).ways 8)
+line_few_frames command rows none =
+    let line = line_of rows in
+    let clear = sound command line none in
+    few_frames (value_or line.sets 64) (value_of Ways rows) (at_ways (is_beyond line) clear.beyond)
+    (neither (is_out_of_range line.sets) line.crowded (at_sets (is_beyond line) clear.beyond))
+
+within_or : (least most default : ℕ) (word : Option (List ℕ)) → IsWithin least most default → IsWithin least most (value_or (said (number_within least most) word) default)
+within_or least most default word fits = or_default (said (number_within least most) word) default (IsWithin least most) (said_within least most word) fits
+
+engine_fits : (command : Command) (rows : List Row) → fault_of command (line_of rows) ≡ None →
+    let line = line_of rows in IsEngine (value_or line.workers 4) (value_or line.sets 64) (value_or line.ways 8) (value_or line.depth 64) (value_or line.shift 10)
+engine_fits command rows none =
+    let workers = within_or 1 64 4 (value_of Workers rows) (omega arith, omega arith) in
+    let sets = within_or 1 262144 64 (value_of Sets rows) (omega arith, omega arith) in
+    let ways = within_or 1 16 8 (value_of Ways rows) (omega arith, omega arith) in
+    let depth = within_or 1 1024 64 (value_of Depth rows) (omega arith, omega arith) in
+    let shift = within_or 0 16 10 (value_of Shift rows) (omega arith, omega arith) in
+    record {
+      some_workers = workers.0;
+      few_workers = workers.1;
+      some_sets = sets.0;
+      few_sets = sets.1;
+      some_ways = ways.0;
+      few_ways = ways.1;
+      few_frames = line_few_frames command rows none;
+      some_depth = depth.0;
+      small_depth = depth.1;
+      small_shift = shift.1;
+    }
+
+job_fits_by : (command : Command) (rows : List Row) (job : Job) → fault_of command (line_of rows) ≡ None → job_from command (line_of rows) ≡ Some job → JobFits job
+job_fits_by Build rows job none is = subst JobFits (same_Some (build_from (line_of rows)) job is) (unit_fits (value_of UnitPages rows))
+job_fits_by Run rows job none is =
+    let made = map_of (run_from (line_of rows)) (pick_of (line_of rows)) job is in
+    subst JobFits made.2 (run_fits rows made.0 made.1, engine_fits Run rows none)
+job_fits_by Ref rows job none is =
     let made = map_of (ref_from (line_of rows)) (pick_of (line_of rows)) job is in subst JobFits made.2 (run_fits rows made.0 made.1)
-job_fits_by Check rows job is = subst JobFits (same_Some Job.Check job is) tt
-job_fits_by Gen rows job is =
+job_fits_by Check rows job none is = subst JobFits (same_Some Job.Check job is) tt
+job_fits_by Gen rows job none is =
     let made = map_of gen_from (recipe_of (line_of rows)) job is in
     subst JobFits made.2 (line_recipe_fits rows made.0 made.1)
-job_fits_by Large rows job is =
+job_fits_by Large rows job none is =
     let line = line_of rows in
     let made = large_of line (pick_of line) (recipe_of line) job is in
     subst JobFits (same_Some _ job made.4)
-    (run_fits rows made.0 made.2, unit_fits (value_of UnitPages rows), line_recipe_fits rows made.1 made.3, made_fits (value_of Drives rows))
+    (run_fits rows made.0 made.2, unit_fits (value_of UnitPages rows), line_recipe_fits rows made.1 made.3, made_fits (value_of Drives rows), engine_fits Large rows none)
 
 -- An accepted job.
 
@@ -325,7 +391,7 @@ sound_by None rows job accepted = absurd (cc)
 sound_by (Some command) rows job accepted =
     let line = line_of rows in
     let made = given_job (fault_of command line) (job_from command line) job accepted in
-    record { drives = has_drives command line job made.0 made.1; fits = job_fits_by command rows job made.1 }
+    record { drives = has_drives command line job made.0 made.1; fits = job_fits_by command rows job made.0 made.1 }
 
 -- what words ask for stands in them, where they are read
 asked : (is_there : Bool) (answer : Result Job WordFault) (job : Job) → (if is_there then answer else Err Parse) ≡ Ok job → answer ≡ Ok job

@@ -1,3 +1,4 @@
+mod EngineRows
 mod FoundLemmas
 mod GrammarLemmas
 mod JobLaws

@@ -3,7 +3,9 @@ use Rattle.std.proofs.Common.{◌≡◌, ℕ, ◌==◌, Bool, true, false, Some,
 use Rattle.clap.proofs.OnLiterals.{clap_on_literals}
 use Rattle.fg_base.specs.declared.refusal.Opt.TheVariants.{Program, Source, Max, Cut, Quiet, Unit as UnitPages, Drives, Drive}
 use Rattle.fg_base.specs.declared.refusal.WordFault.TheVariants.{Parse, Command, Extra, Missing, Range}
+use Rattle.fg_words.specs.declared.jobs.Job.{Job}
 use Rattle.fg_words.specs.declared.jobs.Job.TheVariants.{Build, Run, Ref, Check, Gen, Large}
+use Rattle.fg_words.specs.declared.jobs.Pick.{Pick}
 use Rattle.fg_words.specs.declared.jobs.Pick.TheVariants.{Bfs, Sssp, Wcc, Core, Rank}
 use Rattle.fg_words.specs.Grammar.{grammar, is_read, read}
 use Rattle.fg_words.specs.Words.{input_of, job_of, names_of}
@@ -14,25 +16,29 @@ spaced true c words = [] ∷ words
 spaced false c [] = (c ∷ []) ∷ []
 spaced false c (word ∷ words) = (c ∷ word) ∷ words
 
-abbrev line : List ℕ → List (List ℕ)
+abbrev pub line : List ℕ → List (List ℕ)
 line [] = [] ∷ []
 line (c ∷ rest) = spaced (c == 32) c (line rest)
 
+-- a run through the engine that the words say nothing of
+abbrev pub plain_run : Pick → ℕ → Bool → Bool → Job
+plain_run pick max each quiet = Run pick max each quiet 4 64 8 64 10 false
+
 -- Values behind `=` and behind their option's name, and options on either side of COMMAND and of drives.
 
-value_behind_equals : job_of (line (codes "run --program=bfs --source=0 D")) ≡ Ok (Run (Bfs 0) 4294967295 false false)
+value_behind_equals : job_of (line (codes "run --program=bfs --source=0 D")) ≡ Ok (plain_run (Bfs 0) 4294967295 false false)
 unfolding grammar is_read read clap_on_literals
 value_behind_equals = refl
 
-both_forms : job_of (line (codes "run --program=bfs --source 0 D")) ≡ Ok (Run (Bfs 0) 4294967295 false false)
+both_forms : job_of (line (codes "run --program=bfs --source 0 D")) ≡ Ok (plain_run (Bfs 0) 4294967295 false false)
 unfolding grammar is_read read clap_on_literals
 both_forms = refl
 
-options_before_the_command : job_of (line (codes "--program bfs run --source 0 D")) ≡ Ok (Run (Bfs 0) 4294967295 false false)
+options_before_the_command : job_of (line (codes "--program bfs run --source 0 D")) ≡ Ok (plain_run (Bfs 0) 4294967295 false false)
 unfolding grammar is_read read clap_on_literals
 options_before_the_command = refl
 
-drives_between_options : job_of (line (codes "run D0 --program bfs D1 --source 0 D2")) ≡ Ok (Run (Bfs 0) 4294967295 false false)
+drives_between_options : job_of (line (codes "run D0 --program bfs D1 --source 0 D2")) ≡ Ok (plain_run (Bfs 0) 4294967295 false false)
 unfolding grammar is_read read clap_on_literals
 drives_between_options = refl
 
@@ -40,7 +46,7 @@ drives_between_options-drives : names_of (line (codes "run D0 --program bfs D1 -
 unfolding grammar is_read read clap_on_literals
 drives_between_options-drives = refl
 
-drives_before_the_last_option : job_of (line (codes "run --source=0 D0 --program=bfs")) ≡ Ok (Run (Bfs 0) 4294967295 false false)
+drives_before_the_last_option : job_of (line (codes "run --source=0 D0 --program=bfs")) ≡ Ok (plain_run (Bfs 0) 4294967295 false false)
 unfolding grammar is_read read clap_on_literals
 drives_before_the_last_option = refl
 
@@ -50,7 +56,7 @@ drives_before_the_last_option-drives = refl
 
 -- Behind the first `--` all words are positional, a second `--` too.
 
-drives_behind_dashes : job_of (line (codes "run --program bfs --source 0 -- -D --x")) ≡ Ok (Run (Bfs 0) 4294967295 false false)
+drives_behind_dashes : job_of (line (codes "run --program bfs --source 0 -- -D --x")) ≡ Ok (plain_run (Bfs 0) 4294967295 false false)
 unfolding grammar is_read read clap_on_literals
 drives_behind_dashes = refl
 
@@ -58,7 +64,7 @@ drives_behind_dashes-drives : names_of (line (codes "run --program bfs --source 
 unfolding grammar is_read read clap_on_literals
 drives_behind_dashes-drives = refl
 
-dashes_as_a_drive : job_of (line (codes "run --program bfs --source 0 -- D -- E")) ≡ Ok (Run (Bfs 0) 4294967295 false false)
+dashes_as_a_drive : job_of (line (codes "run --program bfs --source 0 -- D -- E")) ≡ Ok (plain_run (Bfs 0) 4294967295 false false)
 unfolding grammar is_read read clap_on_literals
 dashes_as_a_drive = refl
 
@@ -76,7 +82,7 @@ help_behind_dashes = refl
 
 -- A drive is any word that doesn't begin with `-`, or is that word.
 
-drive_of_a_dash : job_of (line (codes "run --program bfs --source 0 -")) ≡ Ok (Run (Bfs 0) 4294967295 false false)
+drive_of_a_dash : job_of (line (codes "run --program bfs --source 0 -")) ≡ Ok (plain_run (Bfs 0) 4294967295 false false)
 unfolding grammar is_read read clap_on_literals
 drive_of_a_dash = refl
 
@@ -84,7 +90,7 @@ drive_of_a_dash-drives : names_of (line (codes "run --program bfs --source 0 -")
 unfolding grammar is_read read clap_on_literals
 drive_of_a_dash-drives = refl
 
-drive_of_no_letter : job_of (line (codes "run --program bfs --source 0 ")) ≡ Ok (Run (Bfs 0) 4294967295 false false)
+drive_of_no_letter : job_of (line (codes "run --program bfs --source 0 ")) ≡ Ok (plain_run (Bfs 0) 4294967295 false false)
 unfolding grammar is_read read clap_on_literals
 drive_of_no_letter = refl
 
@@ -92,7 +98,7 @@ drive_of_no_letter-drives : names_of (line (codes "run --program bfs --source 0 
 unfolding grammar is_read read clap_on_literals
 drive_of_no_letter-drives = refl
 
-drive_with_dashes_inside : job_of (line (codes "run --program bfs --source 0 a-b--c")) ≡ Ok (Run (Bfs 0) 4294967295 false false)
+drive_with_dashes_inside : job_of (line (codes "run --program bfs --source 0 a-b--c")) ≡ Ok (plain_run (Bfs 0) 4294967295 false false)
 unfolding grammar is_read read clap_on_literals
 drive_with_dashes_inside = refl
 
@@ -160,7 +166,7 @@ flag_with_an_empty_value : job_of (line (codes "run --each= --program bfs --sour
 unfolding grammar is_read read clap_on_literals
 flag_with_an_empty_value = refl
 
-word_behind_a_flag : job_of (line (codes "run --program bfs --source 0 --each 1")) ≡ Ok (Run (Bfs 0) 4294967295 true false)
+word_behind_a_flag : job_of (line (codes "run --program bfs --source 0 --each 1")) ≡ Ok (plain_run (Bfs 0) 4294967295 true false)
 unfolding grammar is_read read clap_on_literals
 word_behind_a_flag = refl
 
@@ -201,10 +207,6 @@ equals_alone = refl
 option_that_is_not_built : job_of (line (codes "run --stats --program bfs --source 0 D")) ≡ Err Parse
 unfolding grammar is_read read clap_on_literals
 option_that_is_not_built = refl
-
-workers_that_are_not_built : job_of (line (codes "run --workers 1 --program bfs --source 0 D")) ≡ Err Parse
-unfolding grammar is_read read clap_on_literals
-workers_that_are_not_built = refl
 
 short_help : job_of (line (codes "-h")) ≡ Err Parse
 unfolding grammar is_read read clap_on_literals
@@ -302,7 +304,7 @@ no_iteration : job_of (line (codes "run --max 0 --program bfs --source 0 D")) �
 unfolding grammar is_read read clap_on_literals
 no_iteration = refl
 
-twenty_digits : job_of (line (codes "run --program bfs --source 00000000000000000000 D")) ≡ Ok (Run (Bfs 0) 4294967295 false false)
+twenty_digits : job_of (line (codes "run --program bfs --source 00000000000000000000 D")) ≡ Ok (plain_run (Bfs 0) 4294967295 false false)
 unfolding grammar is_read read clap_on_literals
 twenty_digits = refl
 
@@ -336,7 +338,7 @@ option_of_a_check = refl
 
 -- Jobs with all that they may say.
 
-run_of_components : job_of (line (codes "run --program wcc D0")) ≡ Ok (Run Wcc 4294967295 false false)
+run_of_components : job_of (line (codes "run --program wcc D0")) ≡ Ok (plain_run Wcc 4294967295 false false)
 unfolding grammar is_read read clap_on_literals
 run_of_components = refl
 
@@ -344,7 +346,7 @@ run_of_components-drives : names_of (line (codes "run --program wcc D0")) ≡ co
 unfolding grammar is_read read clap_on_literals
 run_of_components-drives = refl
 
-run_of_cores : job_of (line (codes "run --each --program core --max 7 D0")) ≡ Ok (Run Core 7 true false)
+run_of_cores : job_of (line (codes "run --each --program core --max 7 D0")) ≡ Ok (plain_run Core 7 true false)
 unfolding grammar is_read read clap_on_literals
 run_of_cores = refl
 
@@ -392,7 +394,7 @@ generated_edges-drives : names_of (line (codes "gen --edges 67108864 --nodes 167
 unfolding grammar is_read read clap_on_literals
 generated_edges-drives = refl
 
-whole_large_run : job_of (line (codes "large --drives 16 --unit 1 --undirected --max 3 --cut 2 --program rank --start 5 --nodes 6 --edges 7")) ≡ Ok (Large (Rank 2) 3 1 true 5 6 7 16)
+whole_large_run : job_of (line (codes "large --drives 16 --unit 1 --undirected --max 3 --cut 2 --program rank --start 5 --nodes 6 --edges 7")) ≡ Ok (Large (Rank 2) 3 4 64 8 64 10 false 1 true 5 6 7 16)
 unfolding grammar is_read read clap_on_literals
 whole_large_run = refl
 

@@ -1,13 +1,13 @@
 -- What the words say of each option: the options' ranges, which commands and programs take them or need
 -- them, and what is wrong.
-use Rattle.std.specs.Prelude.{ℕ, Bool, true, false, Option, Some, None, List, ◌&&◌, ◌||◌, not, nat_le, nat_lt, nat_eq, is_some, length, if◌then◌else◌, codes, find, option_map}
+use Rattle.std.specs.Prelude.{ℕ, ◌*◌, Bool, true, false, Option, Some, None, List, ◌&&◌, ◌||◌, not, nat_le, nat_lt, nat_eq, is_some, length, if◌then◌else◌, codes, find, option_map}
 use Rattle.std.specs.Option.{option_or}
 use Rattle.std.specs.Cmp.Lexicographic.{pointwise}
 use Rattle.std.specs.List.{list_all}
 use Rattle.std.specs.Str.Parse.{digits_value}
 use Rattle.std.specs.Char.{is_ascii_digit}
 use Rattle.fg_base.specs.declared.refusal.Opt.{Opt}
-use Rattle.fg_base.specs.declared.refusal.Opt.TheVariants.{Program, Source, Max, Cut, Each, Quiet, Unit as UnitPages, Number, Undirected, Input, Start, Nodes, Edges, Drives, Drive}
+use Rattle.fg_base.specs.declared.refusal.Opt.TheVariants.{Program, Source, Max, Cut, Each, Quiet, Workers, Sets, Ways, Depth, Shift, Helpers, Unit as UnitPages, Number, Undirected, Input, Start, Nodes, Edges, Drives, Drive}
 use Rattle.fg_base.specs.declared.refusal.WordFault.{WordFault}
 use Rattle.fg_base.specs.declared.refusal.WordFault.TheVariants.{Extra, Missing, Range}
 use Rattle.clap.specs.Walk.{Row}
@@ -57,6 +57,10 @@ number_within least most word =
     then Some (digits_value 10 word)
     else None
 
+-- so many times the number that a word is are more than this; what is no number isn't
+abbrev pub is_past : ℕ → ℕ → List ℕ → Bool
+is_past most times word = is_number word && nat_lt most (times * digits_value 10 word)
+
 -- what an option's value says, by what was found within the option's range
 abbrev pub found : {A : Type 0} → Option A → Said A
 found None = OutOfRange
@@ -93,6 +97,11 @@ number_in least most option rows = said (number_within least most) (value_of opt
 abbrev pub program_in : List Row → Said ProgramName
 program_in rows = said program_of (value_of Program rows)
 
+-- so many sets of the ways that the words give, in their range or not, are more frames than a cache has
+abbrev pub is_crowded : ℕ → Option (List ℕ) → Bool
+is_crowded sets None = nat_lt 262144 (sets * 8)
+is_crowded sets (Some ways) = is_past 262144 sets ways
+
 -- what the words say, each value within its option's range
 abbrev pub line_of : List Row → CommandLine
 line_of rows = record {
@@ -102,6 +111,13 @@ line_of rows = record {
   cut = number_in 1 18446744073709551615 Cut rows;
   each = is_some (value_of Each rows);
   quiet = is_some (value_of Quiet rows);
+  workers = number_in 1 64 Workers rows;
+  sets = number_in 1 262144 Sets rows;
+  ways = number_in 1 16 Ways rows;
+  crowded = is_crowded (value_or (number_in 1 262144 Sets rows) 64) (value_of Ways rows);
+  depth = number_in 1 1024 Depth rows;
+  shift = number_in 0 16 Shift rows;
+  helpers = is_some (value_of Helpers rows);
   unit = number_in 1 256 UnitPages rows;
   number = number_in 0 18446744073709551615 Number rows;
   undirected = is_some (value_of Undirected rows);
@@ -121,6 +137,12 @@ is_given line Max = is_there line.max
 is_given line Cut = is_there line.cut
 is_given line Each = line.each
 is_given line Quiet = line.quiet
+is_given line Workers = is_there line.workers
+is_given line Sets = is_there line.sets
+is_given line Ways = is_there line.ways
+is_given line Depth = is_there line.depth
+is_given line Shift = is_there line.shift
+is_given line Helpers = line.helpers
 is_given line UnitPages = is_there line.unit
 is_given line Number = is_there line.number
 is_given line Undirected = line.undirected
@@ -131,12 +153,17 @@ is_given line Edges = is_there line.edges
 is_given line Drives = is_there line.made
 is_given line Drive = nat_lt 0 line.drives
 
--- the option's value isn't in its range; of drives there are 16 at most
+-- the option's value isn't in its range; sets times ways are 262144 at most, and of drives there are 16 at most
 abbrev pub is_beyond : CommandLine → Opt → Bool
 is_beyond line Program = is_out_of_range line.program
 is_beyond line Source = is_out_of_range line.source
 is_beyond line Max = is_out_of_range line.max
 is_beyond line Cut = is_out_of_range line.cut
+is_beyond line Workers = is_out_of_range line.workers
+is_beyond line Sets = is_out_of_range line.sets || line.crowded
+is_beyond line Ways = is_out_of_range line.ways
+is_beyond line Depth = is_out_of_range line.depth
+is_beyond line Shift = is_out_of_range line.shift
 is_beyond line UnitPages = is_out_of_range line.unit
 is_beyond line Number = is_out_of_range line.number
 is_beyond line Start = is_out_of_range line.start
@@ -146,7 +173,7 @@ is_beyond line Drives = is_out_of_range line.made
 is_beyond line Drive = nat_lt 16 line.drives
 is_beyond line _ = false
 
--- the options of a run
+-- the options of each run, also of one in memory
 abbrev pub is_of_runs : Opt → Bool
 is_of_runs Program = true
 is_of_runs Source = true
@@ -156,6 +183,16 @@ is_of_runs Each = true
 is_of_runs Quiet = true
 is_of_runs Drive = true
 is_of_runs _ = false
+
+-- the options of the engine that a run goes through
+abbrev pub is_of_engines : Opt → Bool
+is_of_engines Workers = true
+is_of_engines Sets = true
+is_of_engines Ways = true
+is_of_engines Depth = true
+is_of_engines Shift = true
+is_of_engines Helpers = true
+is_of_engines _ = false
 
 -- the options of a build
 abbrev pub is_of_builds : Opt → Bool
@@ -196,11 +233,11 @@ is_the_drives _ = false
 -- the command takes the option
 abbrev pub is_taken_by : Command → Opt → Bool
 is_taken_by Build option = is_of_builds option
-is_taken_by Run option = is_of_runs option
+is_taken_by Run option = is_of_runs option || is_of_engines option
 is_taken_by Ref option = is_of_runs option
 is_taken_by Check option = is_the_drives option
 is_taken_by Gen option = is_of_generating option
-is_taken_by Large option = is_of_large_runs option
+is_taken_by Large option = is_of_large_runs option || is_of_engines option
 
 -- what no run and no run on generated edges is without
 abbrev pub is_in_each_run : Opt → Bool

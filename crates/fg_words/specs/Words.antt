@@ -50,7 +50,9 @@ abbrev pub build_from : CommandLine → Job
 build_from line = Job.Build (value_or line.unit 16) (value_or line.number 0) line.undirected
 
 abbrev pub run_from : CommandLine → Pick → Job
-run_from line pick = Job.Run pick (value_or line.max 4294967295) line.each line.quiet
+run_from line pick =
+    Job.Run pick (value_or line.max 4294967295) line.each line.quiet (value_or line.workers 4) (value_or line.sets 64)
+    (value_or line.ways 8) (value_or line.depth 64) (value_or line.shift 10) line.helpers
 
 abbrev pub ref_from : CommandLine → Pick → Job
 ref_from line pick = Job.Ref pick (value_or line.max 4294967295) line.each line.quiet
@@ -60,7 +62,9 @@ gen_from recipe = Job.Gen recipe.start recipe.nodes recipe.edges
 
 abbrev pub large_from : CommandLine → Option Pick → Option Recipe → Option Job
 large_from line (Some pick) (Some recipe) =
-    Some (Job.Large pick (value_or line.max 4294967295) (value_or line.unit 16) recipe.undirected recipe.start recipe.nodes recipe.edges (value_or line.made 1))
+    Some (Job.Large pick (value_or line.max 4294967295) (value_or line.workers 4) (value_or line.sets 64) (value_or line.ways 8)
+    (value_or line.depth 64) (value_or line.shift 10) line.helpers (value_or line.unit 16) recipe.undirected recipe.start
+    recipe.nodes recipe.edges (value_or line.made 1))
 large_from line pick recipe = None
 
 -- the job of a command; there is one where nothing is wrong with the words

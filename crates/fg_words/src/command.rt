@@ -1,7 +1,7 @@
 //! The commands and the vertex programs by their names, with the options that each takes and needs.
 
 ghost use Rattle.std.specs.Prelude.{◌≡◌};
-ghost use Rattle.fg_words.specs.CommandLine.{command_of, program_of, is_taken_by, is_needed_by, has_use_for, depends_on};
+ghost use Rattle.fg_words.specs.CommandLine.{command_of, program_of, is_of_engines, is_of_runs, is_of_large_runs, is_taken_by, is_needed_by, has_use_for, depends_on};
 
 use fg_base::Opt;
 
@@ -14,6 +14,45 @@ pub(crate) enum Command {
     Check,
     Gen,
     Large,
+}
+
+/// Whether each run takes the option, also one in memory.
+fn is_of_runs(option: Opt) -> bool
+    ensures { result ≡ is_of_runs option }
+{
+    matches!(
+        option,
+        Opt::Program | Opt::Source | Opt::Max | Opt::Cut | Opt::Each | Opt::Quiet | Opt::Drive
+    )
+}
+
+/// Whether the option is one of the engine that a run goes through.
+fn is_of_engines(option: Opt) -> bool
+    ensures { result ≡ is_of_engines option }
+{
+    matches!(
+        option,
+        Opt::Workers | Opt::Sets | Opt::Ways | Opt::Depth | Opt::Shift | Opt::Helpers
+    )
+}
+
+/// Whether a run on generated edges takes the option, beside those of the engine.
+fn is_of_large_runs(option: Opt) -> bool
+    ensures { result ≡ is_of_large_runs option }
+{
+    matches!(
+        option,
+        Opt::Program
+            | Opt::Source
+            | Opt::Max
+            | Opt::Cut
+            | Opt::Unit
+            | Opt::Undirected
+            | Opt::Start
+            | Opt::Nodes
+            | Opt::Edges
+            | Opt::Drives
+    )
 }
 
 impl Command {
@@ -41,31 +80,11 @@ impl Command {
                 option,
                 Opt::Unit | Opt::Number | Opt::Undirected | Opt::Input | Opt::Drive
             ),
-            Command::Run | Command::Ref => matches!(
-                option,
-                Opt::Program
-                    | Opt::Source
-                    | Opt::Max
-                    | Opt::Cut
-                    | Opt::Each
-                    | Opt::Quiet
-                    | Opt::Drive
-            ),
+            Command::Run => is_of_runs(option) || is_of_engines(option),
+            Command::Ref => is_of_runs(option),
             Command::Check => option == Opt::Drive,
             Command::Gen => matches!(option, Opt::Start | Opt::Nodes | Opt::Edges),
-            Command::Large => matches!(
-                option,
-                Opt::Program
-                    | Opt::Source
-                    | Opt::Max
-                    | Opt::Cut
-                    | Opt::Unit
-                    | Opt::Undirected
-                    | Opt::Start
-                    | Opt::Nodes
-                    | Opt::Edges
-                    | Opt::Drives
-            ),
+            Command::Large => is_of_large_runs(option) || is_of_engines(option),
         }
     }
 

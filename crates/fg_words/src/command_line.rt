@@ -1,23 +1,42 @@
 //! What the words say of each option, and which job that makes.
 
 ghost use Rattle.std.specs.Prelude.{◌≡◌, find};
-ghost use Rattle.fg_words.specs.CommandLine.{fault_of, is_beyond, is_extra, is_given, is_missing, is_useful, is_vital, line_of, number_in, program_in};
+ghost use Rattle.fg_words.specs.CommandLine.{fault_of, is_beyond, is_crowded, is_extra, is_given, is_missing, is_useful, is_vital, line_of, number_in, program_in};
+ghost use Rattle.fg_base.specs.declared.refusal.Opt.TheVariants.{Ways};
 ghost use Rattle.fg_words.specs.Options.{table};
-ghost use Rattle.fg_words.specs.Reading.{rows_in};
+ghost use Rattle.fg_words.specs.Reading.{rows_in, value_of};
 ghost use Rattle.fg_words.specs.Words.{build_from, job_from, pick_of, recipe_of};
 
 use crate::command::{Command, ProgramName};
 use crate::jobs::{Job, Pick, Recipe};
-use crate::number::{number_within, wide_number_within};
+use crate::number::{is_past, number_within, wide_number_within};
 use crate::options::TABLE;
 use crate::reading::{count_drives, value_of};
 use crate::said::Said;
 use clap::ArgMatches;
-use fg_base::limits::{MAX_DRIVES, MAX_ENTRIES, MAX_UNIT, MAX_VERTICES};
+use fg_base::limits::{
+    MAX_DEPTH, MAX_DRIVES, MAX_ENTRIES, MAX_FRAMES, MAX_SETS, MAX_SHIFT, MAX_UNIT, MAX_VERTICES,
+    MAX_WAYS, MAX_WORKERS,
+};
 use fg_base::{Opt, WordFault};
 
 /// The cut of `rank` where the words give none.
 const DEFAULT_CUT: u64 = 1048;
+
+/// The workers of a run where the words give none.
+const DEFAULT_WORKERS: u32 = 4;
+
+/// The sets of pages of a cache where the words give none.
+const DEFAULT_SETS: u32 = 64;
+
+/// The pages of a set where the words give none.
+const DEFAULT_WAYS: u32 = 8;
+
+/// The loads that a drive's queue holds where the words don't say.
+const DEFAULT_DEPTH: u32 = 64;
+
+/// The shift from a vertex to its block where the words give none.
+const DEFAULT_SHIFT: u32 = 10;
 
 /// The pages of a unit where the words give none.
 const DEFAULT_UNIT: u32 = 16;
@@ -31,6 +50,14 @@ pub(crate) struct CommandLine {
     pub(crate) cut: Said<u64>,
     pub(crate) each: bool,
     pub(crate) quiet: bool,
+    pub(crate) workers: Said<u32>,
+    pub(crate) sets: Said<u32>,
+    pub(crate) ways: Said<u32>,
+    /// Whether sets times ways is too large.
+    pub(crate) crowded: bool,
+    pub(crate) depth: Said<u32>,
+    pub(crate) shift: Said<u32>,
+    pub(crate) helpers: bool,
     pub(crate) unit: Said<u32>,
     pub(crate) number: Said<u64>,
     pub(crate) undirected: bool,
@@ -75,11 +102,23 @@ fn wide_number_in(found: &ArgMatches<'_>, option: Opt, least: u64, most: u64) ->
     }
 }
 
+/// Whether so many sets of the ways that the words give are more frames than a cache has. Ways out of their range count
+/// too, since the product is looked at before them.
+fn is_crowded(found: &ArgMatches<'_>, sets: u32) -> bool
+    ensures { result ≡ is_crowded sets (value_of Ways (rows_in found.now)) }
+{
+    match value_of(found, Opt::Ways) {
+        Some(word) => is_past(MAX_FRAMES, sets, word),
+        None => u64::from(sets) * u64::from(DEFAULT_WAYS) > u64::from(MAX_FRAMES),
+    }
+}
+
 impl CommandLine {
     /// What the words say in which `clap` found this.
     pub(crate) fn read(found: &ArgMatches<'_>) -> CommandLine
         ensures { result ≡ line_of (rows_in found.now) }
     {
+        let sets = number_in(found, Opt::Sets, 1, MAX_SETS);
         CommandLine {
             program: program_in(found),
             source: number_in(found, Opt::Source, 0, u32::MAX),
@@ -87,6 +126,13 @@ impl CommandLine {
             cut: wide_number_in(found, Opt::Cut, 1, u64::MAX),
             each: value_of(found, Opt::Each).is_some(),
             quiet: value_of(found, Opt::Quiet).is_some(),
+            workers: number_in(found, Opt::Workers, 1, MAX_WORKERS),
+            sets,
+            ways: number_in(found, Opt::Ways, 1, MAX_WAYS),
+            crowded: is_crowded(found, sets.value_or(DEFAULT_SETS)),
+            depth: number_in(found, Opt::Depth, 1, MAX_DEPTH),
+            shift: number_in(found, Opt::Shift, 0, MAX_SHIFT),
+            helpers: value_of(found, Opt::Helpers).is_some(),
             unit: number_in(found, Opt::Unit, 1, MAX_UNIT),
             number: wide_number_in(found, Opt::Number, 0, u64::MAX),
             undirected: value_of(found, Opt::Undirected).is_some(),
@@ -110,6 +156,12 @@ impl CommandLine {
             Opt::Cut => self.cut.is_there(),
             Opt::Each => self.each,
             Opt::Quiet => self.quiet,
+            Opt::Workers => self.workers.is_there(),
+            Opt::Sets => self.sets.is_there(),
+            Opt::Ways => self.ways.is_there(),
+            Opt::Depth => self.depth.is_there(),
+            Opt::Shift => self.shift.is_there(),
+            Opt::Helpers => self.helpers,
             Opt::Unit => self.unit.is_there(),
             Opt::Number => self.number.is_there(),
             Opt::Undirected => self.undirected,
@@ -131,6 +183,11 @@ impl CommandLine {
             Opt::Source => self.source.is_out_of_range(),
             Opt::Max => self.max.is_out_of_range(),
             Opt::Cut => self.cut.is_out_of_range(),
+            Opt::Workers => self.workers.is_out_of_range(),
+            Opt::Sets => self.sets.is_out_of_range() || self.crowded,
+            Opt::Ways => self.ways.is_out_of_range(),
+            Opt::Depth => self.depth.is_out_of_range(),
+            Opt::Shift => self.shift.is_out_of_range(),
             Opt::Unit => self.unit.is_out_of_range(),
             Opt::Number => self.number.is_out_of_range(),
             Opt::Start => self.start.is_out_of_range(),
@@ -276,6 +333,12 @@ impl CommandLine {
                 max: self.max.value_or(u32::MAX),
                 each: self.each,
                 quiet: self.quiet,
+                workers: self.workers.value_or(DEFAULT_WORKERS),
+                sets: self.sets.value_or(DEFAULT_SETS),
+                ways: self.ways.value_or(DEFAULT_WAYS),
+                depth: self.depth.value_or(DEFAULT_DEPTH),
+                shift: self.shift.value_or(DEFAULT_SHIFT),
+                helpers: self.helpers,
             }),
             None => None,
         }
@@ -323,6 +386,12 @@ impl CommandLine {
         Some(Job::Large {
             pick,
             max: self.max.value_or(u32::MAX),
+            workers: self.workers.value_or(DEFAULT_WORKERS),
+            sets: self.sets.value_or(DEFAULT_SETS),
+            ways: self.ways.value_or(DEFAULT_WAYS),
+            depth: self.depth.value_or(DEFAULT_DEPTH),
+            shift: self.shift.value_or(DEFAULT_SHIFT),
+            helpers: self.helpers,
             unit: self.unit.value_or(DEFAULT_UNIT),
             undirected: recipe.undirected,
             start: recipe.start,

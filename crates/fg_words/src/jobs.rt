@@ -35,6 +35,18 @@ pub enum Job {
         each: bool,
         /// Whether their sum is printed in place of the values at the end.
         quiet: bool,
+        /// How many workers share the vertices, from 1 to 64.
+        workers: u32,
+        /// How many sets of pages the cache has, from 1; with `ways` they make at most 2^18 frames.
+        sets: u32,
+        /// How many pages a set holds, from 1 to 16.
+        ways: u32,
+        /// How many loads a drive's queue holds, from 1 to 1024.
+        depth: u32,
+        /// A block has 2^shift vertices, of a shift of at most 16.
+        shift: u32,
+        /// Whether each drive has a thread of its own that reads it, beside the workers.
+        helpers: bool,
     },
     /// The same on a graph that is read whole into memory first.
     Ref {
@@ -55,6 +67,12 @@ pub enum Job {
     Large {
         pick: Pick,
         max: u32,
+        workers: u32,
+        sets: u32,
+        ways: u32,
+        depth: u32,
+        shift: u32,
+        helpers: bool,
         unit: u32,
         undirected: bool,
         start: u64,

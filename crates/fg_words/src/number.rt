@@ -3,7 +3,7 @@
 ghost use Rattle.std.specs.Prelude.{◌≡◌};
 ghost use Rattle.std.specs.List.{list_all};
 ghost use Rattle.std.specs.Char.{is_ascii_digit};
-ghost use Rattle.fg_words.specs.CommandLine.{is_number, number_within};
+ghost use Rattle.fg_words.specs.CommandLine.{is_number, is_past, number_within};
 
 /// The most digits of a number, leading zeros among them.
 const MAX_DIGITS: usize = 20;
@@ -54,5 +54,20 @@ pub(crate) fn wide_number_within(word: &str, least: u64, most: u64) -> Option<u6
     match word.parse::<u64>() {
         Ok(number) if least <= number && number <= most => Some(number),
         _ => None,
+    }
+}
+
+/// Whether so many times the number that the word is are more than `most`: the product of two numbers of 32 bits has 64
+/// at most, and a greater number is alone too large.
+#[tactic(auto, using(crate::proofs::NumberLemmas::numeral_of, crate::proofs::NumberLemmas::long_past))]
+pub(crate) fn is_past(most: u32, times: u32, word: &str) -> bool
+    ensures { result ≡ is_past most times word.now }
+{
+    if !is_number(word) {
+        return false;
+    }
+    match word.parse::<u32>() {
+        Ok(number) => u64::from(times) * u64::from(number) > u64::from(most),
+        Err(_) => times > 0,
     }
 }

@@ -6,13 +6,19 @@ ghost use Rattle.fg_words.specs.Options.{is_flag, options, table};
 use fg_base::Opt;
 
 /// The options, and the drives behind them, in the order in which refusals look at them.
-pub(crate) static TABLE: [Opt; 15] = [
+pub(crate) static TABLE: [Opt; 21] = [
     Opt::Program,
     Opt::Source,
     Opt::Max,
     Opt::Cut,
     Opt::Each,
     Opt::Quiet,
+    Opt::Workers,
+    Opt::Sets,
+    Opt::Ways,
+    Opt::Depth,
+    Opt::Shift,
+    Opt::Helpers,
     Opt::Unit,
     Opt::Number,
     Opt::Undirected,
@@ -35,5 +41,8 @@ pub(crate) fn named_options() -> &'static [Opt]
 pub(crate) fn is_flag(option: Opt) -> bool
     ensures { result ≡ is_flag option }
 {
-    matches!(option, Opt::Each | Opt::Quiet | Opt::Undirected)
+    matches!(
+        option,
+        Opt::Each | Opt::Quiet | Opt::Helpers | Opt::Undirected
+    )
 }

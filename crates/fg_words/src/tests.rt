@@ -19,6 +19,12 @@ const RUN: Job = Job::Run {
     max: u32::MAX,
     each: false,
     quiet: false,
+    workers: 4,
+    sets: 64,
+    ways: 8,
+    depth: 64,
+    shift: 10,
+    helpers: false,
 };
 
 #[test]
@@ -30,6 +36,27 @@ fn takes_both_forms_of_an_option_on_either_side_of_a_drive(rt: HostRuntime) -> R
     assert_eq!(rt; names[0].as_str(), "D0");
     assert_eq!(rt; names[1].as_str(), "-D1");
     assert_eq!(rt; input_name(rt.alloc(), &line)?.is_none(), true);
+    Ok(())
+}
+
+#[test]
+fn takes_what_is_said_of_the_engine(rt: HostRuntime) -> Result<(), Fail> {
+    let words_of_run =
+        "run --shift 2 --depth=3 --helpers --ways 5 --program wcc --sets=7 --workers 11 D";
+    let line = words(rt.alloc(), words_of_run)?;
+    let asked = Job::Run {
+        pick: Pick::Wcc,
+        max: u32::MAX,
+        each: false,
+        quiet: false,
+        workers: 11,
+        sets: 7,
+        ways: 5,
+        depth: 3,
+        shift: 2,
+        helpers: true,
+    };
+    assert_eq!(rt; job(rt.alloc(), &line), Ok(asked));
     Ok(())
 }
 
@@ -57,6 +84,16 @@ fn refuses_with_the_cause(rt: HostRuntime) -> Result<(), Fail> {
         ),
         ("check", WordFault::Missing(Opt::Drive)),
         ("build --unit 257 D", WordFault::Range(Opt::Unit)),
+        ("check --helpers D", WordFault::Extra(Opt::Helpers)),
+        (
+            "run --program wcc --sets 262144 --ways 17 D",
+            WordFault::Range(Opt::Sets),
+        ),
+        (
+            "run --program wcc --sets 1 --ways 99999999999999999999 D",
+            WordFault::Range(Opt::Sets),
+        ),
+        ("run --program wcc --ways 17 D", WordFault::Range(Opt::Ways)),
     ];
     for (line, fault) in rows {
         let line = words(rt.alloc(), line)?;
