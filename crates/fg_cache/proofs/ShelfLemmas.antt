@@ -26,13 +26,16 @@ use Rattle.fg_cache.proofs.SiteLemmas.{asked_below}
 
 module _ (site : Site) (drive first : ℕ) (loads : List Load) (are : All (IsLoad site drive) loads) (follow : AreConsecutive first loads) where
   -- a run's read is of pages that may be asked for
-  pub asked_read : IsAskedRead site drive (read_of first (length loads))
-  asked_read local above below =
-      let k : ℕ = local - first in
-      let within : local - first < length loads = omega arith in
-      let load : Load = get_or loads (local - first) no_load in
-      let place : load.local ≡ local = follow (local - first) no_load within ∙ (let back : first + (local - first) ≡ local = omega arith in back) in
-      (load.page, subst (λ (at : ℕ). StandsAt site drive load.page at) place (are (local - first) no_load within).stands)
+  pub asked_read : 1 ≤ length loads → length loads ≤ 32 → IsAskedRead site drive (read_of first (length loads))
+  asked_read some few = record { some = some; few = few; at_place = stands_at }
+    where
+      stands_at : (local : ℕ) → first ≤ local → local < first + length loads → (page : ℕ) × StandsAt site drive page local
+      stands_at local above below =
+          let k : ℕ = local - first in
+          let within : local - first < length loads = omega arith in
+          let load : Load = get_or loads (local - first) no_load in
+          let place : load.local ≡ local = follow (local - first) no_load within ∙ (let back : first + (local - first) ≡ local = omega arith in back) in
+          (load.page, subst (λ (at : ℕ). StandsAt site drive load.page at) place (are (local - first) no_load within).stands)
 
   -- and the drive told that it has them
   pub run_told : (told : ℕ) → 0 < length loads → TellsPages site.layout drive told → first + length loads ≤ told

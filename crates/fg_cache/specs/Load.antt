@@ -1,6 +1,7 @@
 -- The loads that wait for a drive, and where the pages stand that may be asked for.
 use Rattle.std.specs.Prelude.{◌≡◌, ℕ, ◌<◌, ◌≤◌, ◌+◌}
 use Rattle.std.specs.List.{Contains}
+use Rattle.fg_base.specs.declared.limits.TheConstants.{MAX_RUN_PAGES}
 use Rattle.fg_outside.specs.declared.drive.Read.{Read}
 use Rattle.fg_queue.specs.declared.load.Load.{Load}
 use Rattle.fg_stripe.specs.Striping.{drive_of, local_of}
@@ -17,7 +18,8 @@ pub record IsLoad (site : Site) (drive : ℕ) (load : Load) : Type 0 where
   pub stands : StandsAt site drive load.page load.local
   pub frame_within : load.frame < frames_of site
 
--- a read of nothing but pages that stand on the drive and may be asked for
-abbrev pub IsAskedRead : Site → ℕ → Read → Type 0
-IsAskedRead site drive read =
-    (local : ℕ) → read.first ≤ local → local < read.first + read.count → (page : ℕ) × StandsAt site drive page local
+-- a read of one to 32 pages, which all stand on the drive and may be asked for
+pub record IsAskedRead (site : Site) (drive : ℕ) (read : Read) : Type 0 where
+  pub some : 1 ≤ read.count
+  pub few : read.count ≤ MAX_RUN_PAGES
+  pub at_place : (local : ℕ) → read.first ≤ local → local < read.first + read.count → (page : ℕ) × StandsAt site drive page local

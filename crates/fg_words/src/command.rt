@@ -1,7 +1,8 @@
 //! The commands and the vertex programs by their names, with the options that each takes and needs.
 
 ghost use Rattle.std.specs.Prelude.{◌≡◌};
-ghost use Rattle.fg_words.specs.CommandLine.{command_of, program_of, is_of_engines, is_of_runs, is_of_large_runs, is_taken_by, is_needed_by, has_use_for, depends_on};
+ghost use Rattle.fg_words.specs.CommandLine.{command_of, program_of, is_of_engines, is_of_runs, is_of_large_runs};
+ghost use Rattle.fg_words.specs.CommandLine.{is_taken_by, is_needed_by, has_use_for, depends_on};
 
 use fg_base::Opt;
 

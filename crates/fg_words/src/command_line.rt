@@ -1,7 +1,8 @@
 //! What the words say of each option, and which job that makes.
 
 ghost use Rattle.std.specs.Prelude.{◌≡◌, find};
-ghost use Rattle.fg_words.specs.CommandLine.{fault_of, is_beyond, is_crowded, is_extra, is_given, is_missing, is_useful, is_vital, line_of, number_in, program_in};
+ghost use Rattle.fg_words.specs.CommandLine.{fault_of, is_beyond, is_crowded, is_extra, is_given, is_missing};
+ghost use Rattle.fg_words.specs.CommandLine.{is_useful, is_vital, line_of, number_in, program_in};
 ghost use Rattle.fg_base.specs.declared.refusal.Opt.TheVariants.{Ways};
 ghost use Rattle.fg_words.specs.Options.{table};
 ghost use Rattle.fg_words.specs.Reading.{rows_in, value_of};

@@ -18,7 +18,7 @@ pub returns-in-Ok-clause-keeps : goal.returns-in-Ok-clause-keeps
 returns-in-Ok-clause-keeps g c = λ name owed.
     let fits = owed.fits in
     let are = owed.own in
-    let asked = asked_read name.site name.number (first_of c.args.run.now.loads) c.args.run.now.loads are c.first.ensures.run.consecutive in
+    let asked = asked_read name.site name.number (first_of c.args.run.now.loads) c.args.run.now.loads are c.first.ensures.run.consecutive c.first.ensures.run.some_load c.first.ensures.run.at_most_32 in
     let longer = rw (c.first.ensures.first, c.count-count.ensures.count) at c.in-Ok.ensures.log in
     let more_reads : c.saturating_add-self.result ≡ stopped (c.args.self.now.reads + 1) = omega (arith, c.saturating_add-self.ensures) in
     let more_pages : c.saturating_add-self-2.result ≡ stopped (c.args.self.now.pages + length c.args.run.now.loads) =
@@ -32,7 +32,7 @@ pub returns-in-Err-clause-keeps : goal.returns-in-Err-clause-keeps
 returns-in-Err-clause-keeps g c = λ name owed.
     let fits = owed.fits in
     let are = owed.own in
-    let asked = asked_read name.site name.number (first_of c.args.run.now.loads) c.args.run.now.loads are c.first.ensures.run.consecutive in
+    let asked = asked_read name.site name.number (first_of c.args.run.now.loads) c.args.run.now.loads are c.first.ensures.run.consecutive c.first.ensures.run.some_load c.first.ensures.run.at_most_32 in
     let longer = rw (c.first.ensures.first, c.count-count.ensures.count) at c.in-Err.ensures.log_err in
     let more_pages : c.saturating_add-self-2.result ≡ stopped (c.args.self.now.pages + length c.args.run.now.loads) =
     omega (arith, c.saturating_add-self-2.ensures, c.from.ensures, c.count-count.ensures.count) in
