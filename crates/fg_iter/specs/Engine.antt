@@ -65,11 +65,6 @@ fault_kept Unfinished.Memory kept = kept
 fault_kept (Unfinished.Fault fault) kept = Some fault
 fault_kept (Unfinished.BadEdge bad) kept = kept
 
--- there is one, of which this holds
-abbrev pub Has : {X : Type 0} → (X → Type 0) → Option X → Type 0
-Has P None = ⊥
-Has P (Some x) = P x
-
 -- on how many pages the needed lists of iterations stand, taken block by block
 abbrev pub visits_of_all : Lists → Rules → PartMap → List Begun → ℕ
 visits_of_all lists P map begun = sum_by (λ (one : Begun). visits_by_blocks lists P map one.active) begun

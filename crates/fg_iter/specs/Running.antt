@@ -1,9 +1,11 @@
 -- A run by a crew: what may be run, and what came of it.
-use Rattle.std.specs.Prelude.{◌≡◌, ℕ, ◌+◌, ◌≤◌, true, Result, List}
+use Rattle.std.specs.Prelude.{◌≡◌, ℕ, ◌+◌, ◌≤◌, true, Option, Result, List}
+use Rattle.fg_base.specs.declared.plain.VState.{VState}
 use Rattle.fg_crew.specs.declared.slot.Slot.{Slot}
 use Rattle.fg_model.specs.declared.run.End.{End}
 use Rattle.fg_model.specs.declared.run.RunFault.{RunFault}
-use Rattle.fg_model.specs.Engine.{OfEachBegun, Went, begun_in}
+use Rattle.fg_model.specs.declared.watch.IterLine.{IterLine}
+use Rattle.fg_model.specs.Engine.{HasTallied, OfEachBegun, WatchShown, Went, begun_in}
 use Rattle.fg_model.specs.Iteration.{Begun}
 use Rattle.fg_model.specs.Program.{Rules}
 use Rattle.fg_model.specs.Run.{Finished, run}
@@ -29,3 +31,13 @@ CrewWent lists P max tally_rose answer = Went (λ begun. Unit {0}) tally_rose li
 abbrev pub FoundAll : {K F : Type 0} → (K → Counted) → Lists → Rules → PartMap → ℕ → List (Slot K F) → List (Slot K F) → Type 0
 FoundAll spent lists P map max old new =
     lists.knows ≡ true → hits_in spent old + visits_of_all lists P map (begun_in P lists.graph max) ≤ hits_in spent new
+
+-- the watch was shown the iterations that the run finishes, as far as the answer says
+abbrev pub RunShown : {N W : Type 0} → Lists → Rules → ℕ → (W → IterLine → List VState → List N) → (W → Option (List N)) → W → W
+    → Result End RunFault → Type 0
+RunShown lists P max told notes old new answer =
+    lists.knows ≡ true → WatchShown answer told notes old new (finished_in lists P max)
+
+-- the tally counts the iterations that the run finishes and nothing else
+abbrev pub RunTallied : {T : Type 0} → Lists → Rules → ℕ → (T → ℕ) → (T → ℕ) → T → T → Type 0
+RunTallied lists P max runs entries old new = lists.knows ≡ true → HasTallied runs entries old new (finished_in lists P max)

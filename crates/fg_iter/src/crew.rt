@@ -16,7 +16,7 @@ use std::thread::Threads;
 
 /// The workers of a run, each with its slot, and what they work on: the states of the vertices, a mark for each block, and what came to
 /// each vertex in the iteration that is under way.
-pub struct Crew<'a, P: Program, K, F: Drop> {
+pub(crate) struct Crew<'a, P: Program, K, F: Drop> {
     pub(crate) states: Vec<VState>,
     pub(crate) marks: Vec<bool>,
     /// The phase that the marks were made for.

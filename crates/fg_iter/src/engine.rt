@@ -70,7 +70,8 @@ impl<
     ghost use Rattle.std.specs.Prelude.{◌≡◌};
     ghost use Rattle.std.proofs.Common.{◌∙◌, refl, subst};
     ghost use denote.Ref.{Bor};
-    ghost use Rattle.fg_iter.specs.Engine.{Has, HasDone, IsReady};
+    ghost use Rattle.fg_crew.specs.Slots.{Has};
+    ghost use Rattle.fg_iter.specs.Engine.{HasDone, IsReady};
     ghost use Rattle.fg_iter.specs.DoneLaws.{HasDone-more, HasDone-none};
 
     ghost graph = { λ engine. (B.lists engine.runner.now).graph };

@@ -48,7 +48,7 @@ pub struct Bounds {
 /// then moved into the tally. Where a block has a bad edge, or a worker fails, the states are as they were. Else each vertex that ran, or
 /// to which something came, gets its new state, and the marks are made again. It takes O(blocks) beside the runs, and memory for the
 /// list of blocks and for the messages of a wave.
-pub fn iterate<
+pub(crate) fn iterate<
     P: Program + Sync,
     K: Send,
     T: Tally,

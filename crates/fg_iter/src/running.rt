@@ -1,13 +1,14 @@
 //! A whole run by a crew.
 
-ghost use Rattle.std.specs.Prelude.{◌≡◌, ◌+◌, ◌<◌, ◌≤◌, ◌^◌, true, None, All, IfOk, OnOk, length};
+ghost use Rattle.std.specs.Prelude.{◌≡◌, ◌+◌, ◌<◌, ◌≤◌, ◌^◌, true, None, Err, All, IfOk, OnOk, length};
 ghost use Rattle.fg_base.specs.declared.limits.TheConstants.{MAX_WORKERS};
 ghost use Rattle.fg_iter.specs.Crew.{CanMark, HasMarked, HasVisited, IsCrew, IsSameCrew, IsSettled, rules_in, start_of};
-ghost use Rattle.fg_iter.specs.Engine.{Has, MayIterate, whole_answer};
+ghost use Rattle.fg_crew.specs.Slots.{Has};
+ghost use Rattle.fg_iter.specs.Engine.{MayIterate, whole_answer};
 ghost use Rattle.fg_iter.specs.Lists.{AreBlockWeights};
-ghost use Rattle.fg_iter.specs.Running.{AllowsRun, CrewWent, FoundAll, finished_in};
+ghost use Rattle.fg_iter.specs.Running.{AllowsRun, CrewWent, FoundAll, RunShown, RunTallied};
 ghost use Rattle.fg_iter.specs.Start.{HasEnded, HasRaised};
-ghost use Rattle.fg_model.specs.Engine.{HasTallied, TallyRoseWith, TellsEnd, TellsFaults, WatchShown};
+ghost use Rattle.fg_model.specs.Engine.{TallyRoseWith, TellsEnd, TellsFaults};
 ghost use Rattle.fg_model.specs.Graph.{IsWithinLimits};
 ghost use Rattle.fg_model.specs.Iteration.{AreStates};
 ghost use Rattle.fg_model.specs.Run.{opening_states, run};
@@ -31,6 +32,19 @@ pub struct CrewRun<K, F: Drop> {
     pub answer: Result<End, RunFault>,
     pub slots: Vec<Slot<K, F>>,
     pub fault: Option<F>,
+}
+
+impl<K, F: Drop> CrewRun<K, F> {
+    /// A run for which no memory was got.
+    fn without_memory(slots: Vec<Slot<K, F>>) -> CrewRun<K, F>
+        ensures { result ≡ record { answer = Err RunFault.Memory; slots = slots; fault = None } }
+    {
+        CrewRun {
+            answer: Err(RunFault::Memory),
+            slots,
+            fault: None,
+        }
+    }
 }
 
 /// The run of a program from its opening states on, with at most `max` iterations, by as many workers at once as there are slots.
@@ -78,12 +92,10 @@ pub fn run_by_crew<
     ensures faults { TellsFaults result.answer (result.fault ≡ None) (λ _. Has (B.caused runner.now) result.fault)
         (W.faults watch.old) (W.faults watch.new) }
     ensures answer { (B.lists runner.now).knows ≡ true → TellsEnd result.answer (run (P.rules program.now) (B.lists runner.now).graph max) }
-    ensures shown { (B.lists runner.now).knows ≡ true
-        → WatchShown result.answer W.told W.notes watch.old watch.new (finished_in (B.lists runner.now) (P.rules program.now) max) }
+    ensures shown { RunShown (B.lists runner.now) (P.rules program.now) max W.told W.notes watch.old watch.new result.answer }
     // of a run with an end
     ensures ok_states { IfOk result.answer (λ end. AreStates (B.lists runner.now).graph.n end.states) }
-    ensures ok_tally { OnOk result.answer ((B.lists runner.now).knows ≡ true
-        → HasTallied T.runs T.entries tally.old tally.new (finished_in (B.lists runner.now) (P.rules program.now) max)) }
+    ensures ok_tally { OnOk result.answer (RunTallied (B.lists runner.now) (P.rules program.now) max T.runs T.entries tally.old tally.new) }
     ensures ok_hits { OnOk result.answer
         (FoundAll B.spent (B.lists runner.now) (P.rules program.now) map max slots.items result.slots.items) }
     // of the workers
@@ -92,11 +104,7 @@ pub fn run_by_crew<
     ensures settled { All (λ slot. IsSettled (B.spent slot.kept)) result.slots.items }
 {
     let Ok(outfit) = Outfit::new(alloc, program, map) else {
-        return CrewRun {
-            answer: Err(RunFault::Memory),
-            slots,
-            fault: None,
-        };
+        return CrewRun::without_memory(slots);
     };
     let mut engine = CrewEngine {
         kept: PhantomData::<K>,
@@ -124,6 +132,16 @@ pub fn run_by_crew<
         { iterate(rt, alloc, runner, weights, bounds, phase, crew, tally) },
     };
     let answer = run_engine(alloc, &mut engine, program, max, watch, tally);
+    finish(engine, answer)
+}
+
+/// What came of a run that its engine answered so.
+fn finish<'a, P: Program, K, E: Drop, B, A: Drop, I: Drop>(
+    engine: CrewEngine<'a, K, Crew<'_, P, K, E>, E, B, A, I>,
+    answer: Result<End, RunFault>,
+) -> CrewRun<K, E>
+    ensures { result ≡ record { answer = whole_answer engine.entry.cut_short answer; slots = engine.entry.crew.slots; fault = engine.entry.fault } }
+{
     let CrewEngine {
         kept: _,
         runner: _runner,

@@ -348,6 +348,11 @@ fn ran<R: Threads + Wait + Sync>(rt: &R, alloc: Global, setting: Setting) -> Res
         &mut watch,
         &mut tally,
     );
+    Ok(counted(done, &tally))
+}
+
+/// What came of a run, by the tally that it counted in.
+fn counted(done: CrewRun<Count, u32>, tally: &Count) -> Came {
     let CrewRun {
         answer,
         mut slots,
@@ -358,13 +363,13 @@ fn ran<R: Threads + Wait + Sync>(rt: &R, alloc: Global, setting: Setting) -> Res
         let _kept = slot.into_kept();
     }
     slots.destroy_empty();
-    Ok(Came {
+    Came {
         answer,
         slots: count,
         fault,
         runs: tally.runs(),
         entries: tally.entries(),
-    })
+    }
 }
 
 /// Runs it, where there is such a setting.

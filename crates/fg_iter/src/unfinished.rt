@@ -5,7 +5,7 @@ use fg_task::WorkFault;
 
 /// Why an iteration wasn't finished.
 #[derive(Drop)]
-pub enum Unfinished<F: Drop> {
+pub(crate) enum Unfinished<F: Drop> {
     Memory,
     /// What runs blocks failed.
     Fault(F),
