@@ -1,0 +1,15 @@
+-- What was gone over so far.
+use Rattle.std.proofs.Common.{◌≡◌, ◌++◌}
+use Rattle.fg_worker.specs.Hand.{IsPassHeld, hits_of}
+use Rattle.fg_worker.specs.Visiting.{moment_of}
+use Rattle.fg_worker.proofs.CoverLaws.{GoneOver}
+use Rattle.fg_worker.proofs.rounds.want_first.Given as goal
+
+abbrev pub invariant-loop : goal.invariant-loop
+invariant-loop g l = record {
+  pass : IsPassHeld l.cache.site l.hand.pass;
+  function : l.run.book.function ≡ l.fn.run.book.function;
+  runs : g.T.Tally.runs l.hand.tally ≡ g.T.Tally.runs l.fn.hand.tally;
+  gone : GoneOver l.cache.site (g.F.SegmentRun.work l.fn.run.book.function) (moment_of g.T.Tally.entries l.fn.run l.fn.hand) (moment_of g.T.Tally.entries l.run l.hand)
+      (l.fn.pages.items ++ l.fn.kept.items) (l.pages.items ++ l.kept.items) (hits_of l.fn.hand.pass) (hits_of l.hand.pass);
+}
