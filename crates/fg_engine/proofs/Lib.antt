@@ -1,0 +1,13 @@
+pub mod AskedLaws
+pub mod CountedLaws
+pub mod EndLaws
+pub mod NamedLaws
+pub mod PopLaws
+pub mod ReadLaws
+pub mod RunnerLaws
+pub mod SendLaws
+pub mod ShareLaws
+pub mod StartLaws
+pub mod StockLaws
+pub mod UnbegunLaws
+pub mod WeightLaws

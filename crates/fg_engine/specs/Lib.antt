@@ -1,0 +1,10 @@
+pub mod Hands
+pub mod Naming
+pub mod NoneNeeded
+pub mod Options
+pub mod Outfit
+pub mod Runner
+pub mod Settled
+pub mod Tallies
+pub mod Told
+pub mod Weights

@@ -1,0 +1,36 @@
+//! How a run is to be done.
+
+ghost use Rattle.std.specs.Prelude.{◌≡◌};
+ghost use Rattle.fg_engine.specs.Options.{shape_of};
+
+use fg_cache::Shape;
+
+/// How a run is to be done. Whatever the options are but for `max`, it comes to the same.
+#[derive(Clone, Copy, PartialEq, Eq, Debug)]
+pub struct Options {
+    /// The most iterations.
+    pub max: u32,
+    /// How many workers there are, 1 to 64.
+    pub workers: u32,
+    /// How many page sets the cache has, and how many frames each of them.
+    pub sets: u32,
+    pub ways: u32,
+    /// How many loads may wait for a drive.
+    pub depth: u32,
+    /// A block has 2^`shift` vertices.
+    pub shift: u32,
+}
+
+impl Options {
+    /// The shape of the cache, with a pass for each worker.
+    pub(crate) fn shape(&self) -> Shape
+        ensures { result ≡ shape_of self.now }
+    {
+        Shape {
+            sets: self.sets,
+            ways: self.ways,
+            depth: self.depth,
+            passes: self.workers,
+        }
+    }
+}
