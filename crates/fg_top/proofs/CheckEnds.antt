@@ -5,13 +5,13 @@ use Rattle.fg_base.specs.Refusal.{status_of}
 use Rattle.fg_base.specs.declared.refusal.Refusal.{Refusal}
 use Rattle.fg_build.specs.declared.opened.Opened.{Opened}
 use Rattle.fg_build.specs.Answers.{IsOpening, OpeningCounts, ReadCounts}
-use Rattle.fg_build.specs.Opening.{graph_on, image_of, opening_of}
+use Rattle.fg_build.specs.Opening.{image_of, opening_of}
 use Rattle.fg_build.specs.OpeningReads.{opening_reads, whole_reads}
 use Rattle.fg_image.specs.Checking.{IsFaultless, IsFirstFault}
 use Rattle.fg_image.specs.Lists.{graph_by}
 use Rattle.fg_model.specs.Mirror.{IsMirror}
 use Rattle.fg_outside.specs.declared.drive.Read.{Read}
-use Rattle.fg_outside.specs.Drives.{DriveRead, LogsGrew, LogsGrewByFirst, NoneRose}
+use Rattle.fg_outside.specs.Drives.{LogsGrew, LogsGrewByFirst, NoneRose}
 use Rattle.fg_outside.proofs.DriveLemmas.{EachSame-more, LogsGrewByFirst-before, LogsGrewByFirst-more, LogsGrew-more, RoseFirst-after}
 use Rattle.fg_report.specs.Refusals.{refusal_line}
 use Rattle.fg_top.specs.CheckJob.{CheckComesTo, ClosesCheck, ClosesHeld, HoldMirror, MayCloseCheck, check_reads, checked_line, opened_reads, parts_of}

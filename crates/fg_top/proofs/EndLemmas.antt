@@ -124,18 +124,26 @@ ends_behind faults olds betweens news comes other own leaves first f0 f1 f2 t0 t
   written = written_behind f0 f1 f2 t0 t1 t2 back ends.end (concat first) ends.text status same grew ends.written;
 }
 
+-- a job that something ended where a put failed too: some first part of what had come was written, and no refusal's line
+pub ends_unwritten : {D : Type 0} (faults : D → ℕ) (olds news : List D) (comes : Outcome → Type 0) (leaves : Option Refusal → Type 0) (refusal : Refusal) (first : List ℕ)
+    (f0 f1 : ℕ) (t0 t1 : Option (List ℕ)) (back : Bool) (status : ℕ) → IsCause faults olds news comes (Some refusal) (first ++ refusal_line refusal) → leaves (Some refusal) →
+    Rose f0 f1 → GrewByFirst first t0 t1 → status ≡ 4 → Ends faults olds news comes leaves (output_over f0 f1 t0 t1 back) status
+ends_unwritten faults olds news comes leaves refusal first f0 f1 t0 t1 back status cause left rose grew failed = record {
+  end = Some refusal;
+  text = first ++ refusal_line refusal;
+  cause = cause;
+  left = left;
+  written = inr (rose, grew_before first (refusal_line refusal) t0 t1 grew, failed);
+}
+
 -- a job that ends at once where a put fails, and no drive did: some first part of its first texts was written
 pub ends_given_up : {D : Type 0} (faults : D → ℕ) (olds news : List D) (comes : Outcome → Type 0) (leaves : Option Refusal → Type 0) (outcome : Outcome) (count : ℕ)
     (f0 f1 : ℕ) (t0 t1 : Option (List ℕ)) (back : Bool) (status : ℕ) → comes outcome → NoneRose faults olds news → leaves (Some Refusal.Memory) → Rose f0 f1 →
     GrewByFirst (concat (take count outcome.lines)) t0 t1 → status ≡ 4 →
     Ends faults olds news comes leaves (output_over f0 f1 t0 t1 back) status
-ends_given_up faults olds news comes leaves outcome count f0 f1 t0 t1 back status is kept left rose grew failed = record {
-  end = Some Refusal.Memory;
-  text = concat (take count outcome.lines) ++ refusal_line Refusal.Memory;
-  cause = (kept, record { outcome = outcome; is_one = is; count = count; text_is = refl });
-  left = left;
-  written = inr (rose, grew_before (concat (take count outcome.lines)) (refusal_line Refusal.Memory) t0 t1 grew, failed);
-}
+ends_given_up faults olds news comes leaves outcome count f0 f1 t0 t1 back status is kept left rose grew failed =
+    ends_unwritten faults olds news comes leaves Refusal.Memory (concat (take count outcome.lines)) f0 f1 t0 t1 back status
+    (kept, record { outcome = outcome; is_one = is; count = count; text_is = refl }) left rose grew failed
 
 refusal_status : (refusal : Refusal) → status_of refusal ≡ 0 → ⊥
 refusal_status Refusal.Memory is = cc

@@ -1,7 +1,8 @@
 -- Calls that touch neither drives nor source: words that are refused, and jobs that need none.
-use Rattle.std.proofs.Common.{◌≡◌, ◌≢◌, ℕ, [], true, Option, None, Some, IfSome, IsSome, Result, Ok, Err, List, length, refl, sym, subst, arith}
+use Rattle.std.proofs.Common.{◌≡◌, ℕ, [], true, Option, None, Some, IfSome, IsSome, Result, Err, List, length, refl, sym, subst, arith}
 use Rattle.fg_base.specs.declared.refusal.Refusal.{Refusal}
 use Rattle.fg_base.specs.declared.refusal.WordFault.{WordFault}
+use Rattle.fg_engine.specs.Tallies.{tallied}
 use Rattle.fg_outside.specs.declared.drive.Drive.{Ghosts as DriveGhosts}
 use Rattle.fg_outside.specs.Drives.{EachSame, LogsGrew, RoomyKept, all_told}
 use Rattle.fg_outside.proofs.DriveLemmas.{EachDrive-same, LogsGrew-none}
@@ -10,7 +11,7 @@ use Rattle.fg_text.specs.Generator.{generated_text}
 use Rattle.fg_words.specs.declared.jobs.Job.{Job}
 use Rattle.fg_words.specs.declared.jobs.Recipe.{Recipe}
 use Rattle.fg_top.specs.declared.wish.Wish.{Wish}
-use Rattle.fg_top.specs.Calls.{Call, Output, input_over, tallied}
+use Rattle.fg_top.specs.Calls.{Call, Output, input_over}
 use Rattle.fg_top.specs.Ends.{EndsAlone, IsWritten, LeavesHeld}
 use Rattle.fg_top.specs.GenJob.{GenComesTo, gen_promise}
 use Rattle.fg_top.specs.JobPromises.{promise_by, promise_of}

@@ -8,6 +8,7 @@ use Rattle.fg_base.specs.declared.refusal.Refusal.{Refusal}
 use Rattle.fg_build.specs.declared.opened.Opened.{Opened}
 use Rattle.fg_build.specs.Opening.{graph_on, opening_of}
 use Rattle.fg_build.specs.OpeningReads.{opening_reads, whole_reads}
+use Rattle.fg_engine.specs.Tallies.{RoseByRun, Tallied}
 use Rattle.fg_image.specs.declared.header.Header.{Header}
 use Rattle.fg_model.specs.declared.graph.Graph.{Graph}
 use Rattle.fg_model.specs.Run.{Run}
@@ -16,12 +17,12 @@ use Rattle.fg_outside.specs.Drives.{DriveRead, LogsGrew, LogsGrewBy, LogsGrewByF
 use Rattle.fg_outside.proofs.DriveLemmas.{EachDrive-same, LogsGrew-more, LogsGrewBy-none, LogsGrewByFirst-before, LogsGrewByFirst-more}
 use Rattle.fg_report.specs.Refusals.{refusal_line}
 use Rattle.fg_top.specs.declared.wish.Wish.{Wish}
-use Rattle.fg_top.specs.Calls.{Tallied, output_over}
+use Rattle.fg_top.specs.Calls.{output_over}
 use Rattle.fg_top.specs.Ends.{Ends, EndsAlone, EndsLeaving, IsCause, IsWritten}
 use Rattle.fg_top.specs.Outcome.{Done, Outcome, WishComesTo, at_once, head_of, held_graph, opened_graph, outcome_of, rules_of, run_in, run_on, run_outcome, source_of}
 use Rattle.fg_top.specs.Reads.{IsAskedBy, RunReads, RunReadsAll, image_reads_of, ref_reads, sourced_reads}
 use Rattle.fg_top.specs.Running.{IsSourced, RunComesTo, behind_head}
-use Rattle.fg_top.specs.Tallies.{RoseByRun, RoseByWish}
+use Rattle.fg_top.specs.Tallies.{RoseByWish}
 use Rattle.fg_top.proofs.EndLemmas.{behind, ends_behind, ends_given_up, ends_in_memory, refused_status}
 use Rattle.fg_top.proofs.OutcomeLemmas.{comes_behind_head, comes_in_memory, le_fails, runs_so}
 

@@ -9,17 +9,6 @@ mod MadeEnds
 mod MadeLaws
 mod MeaningLemmas
 mod OutcomeLemmas
-mod PagedLemmas
-mod PagesBegin
-mod PagesEntries
-mod PagesFolding
-mod PagesIteration
-mod PagesOpening
-mod PagesReads
-mod PagesSending
-mod PagesStretches
-mod PagesTold
-mod PagesVertices
 mod RunEnds
 mod TallyLemmas
 mod UnreadLemmas

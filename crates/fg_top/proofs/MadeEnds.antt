@@ -9,6 +9,7 @@ use Rattle.fg_build.specs.Answers.{ReadCounts}
 use Rattle.fg_build.specs.Building.{HoldImage, RoomyKeptForImage}
 use Rattle.fg_build.specs.Layouts.{Plan, all_drive_bytes, drive_bytes}
 use Rattle.fg_build.specs.Opening.{graph_on}
+use Rattle.fg_engine.specs.Tallies.{RoseWithin, Tallied}
 use Rattle.fg_image.specs.Made.{image_bytes}
 use Rattle.fg_image.proofs.MakingLaws.{made_image}
 use Rattle.fg_model.specs.declared.graph.Graph.{Graph}
@@ -23,13 +24,13 @@ use Rattle.fg_text.specs.Generator.{generated_text}
 use Rattle.fg_text.specs.Made.{MadeRefused}
 use Rattle.fg_words.specs.declared.jobs.Recipe.{Recipe}
 use Rattle.fg_top.specs.declared.wish.Wish.{Wish}
-use Rattle.fg_top.specs.Calls.{Output, Tallied}
+use Rattle.fg_top.specs.Calls.{Output}
 use Rattle.fg_top.specs.Ends.{Ends, EndsAlone, IsCause, IsCutShort, IsOutcome}
 use Rattle.fg_top.specs.LargeJob.{HasMirror, LargeComesTo, MeansGenerated, edges_graph, generated_graph}
 use Rattle.fg_top.specs.Meaning.{MeansWish}
 use Rattle.fg_top.specs.MadeDrives.{AreEmptyFor, HoldEdges, HoldGenerated, IsEmptyFor, OpenToEdges}
 use Rattle.fg_top.specs.Outcome.{Close, Counted, Outcome, Refuses, WishComesTo, at_once, held_graph, opened_graph, outcome_of, outcome_on}
-use Rattle.fg_top.specs.Tallies.{RoseByWish, RoseWithin, begins_of}
+use Rattle.fg_top.specs.Tallies.{RoseByWish, begins_of}
 use Rattle.fg_top.proofs.MadeLaws.{drive_pages}
 
 -- one drive more

@@ -13,6 +13,7 @@ use Rattle.fg_base.specs.declared.plain.VState.{VState}
 use Rattle.fg_base.specs.declared.refusal.Refusal.{Refusal}
 use Rattle.fg_base.proofs.GrowthLemmas.{grew_on}
 use Rattle.fg_base.proofs.ToldLemmas.{grown-grown}
+use Rattle.fg_engine.specs.Told.{TellsWhose}
 use Rattle.fg_model.specs.declared.graph.Graph.{Graph}
 use Rattle.fg_model.specs.declared.run.End.{End}
 use Rattle.fg_model.specs.declared.run.RunFault.{RunFault}
@@ -21,17 +22,16 @@ use Rattle.fg_model.specs.Iteration.{AreStates}
 use Rattle.fg_model.specs.Program.{Rules}
 use Rattle.fg_model.specs.Run.{Ending, Finished, Refused, Run, Settled, Stopped, answer_at, answer_of}
 use Rattle.fg_model.specs.Watch.{Grew, ShownAll, ShownPart, ShownSome, told_of}
-use Rattle.fg_outside.specs.Drives.{NoneRose, RoseFirst}
 use Rattle.fg_report.specs.Refusals.{refusal_line}
 use Rattle.fg_report.specs.ReportWatch.{iteration_text}
 use Rattle.fg_top.specs.declared.wish.Wish.{Wish}
 use Rattle.fg_top.specs.Calls.{output_over}
-use Rattle.fg_top.specs.Ends.{Ends}
+use Rattle.fg_top.specs.Ends.{Ends, IsCause}
 use Rattle.fg_top.specs.Outcome.{Close, Done, Outcome, Refuses, run_close, text_of}
-use Rattle.fg_top.specs.Running.{IsClosed, MayClose, RunComesTo, behind_head, last_text}
+use Rattle.fg_top.specs.Running.{IsClosed, IsGivenUp, MayClose, RunComesTo, behind_head, last_text}
 use Rattle.fg_top.specs.Statuses.{CameToEnd}
 use Rattle.fg_top.proofs.BuildDrives.{held_status}
-use Rattle.fg_top.proofs.EndLemmas.{ends_given_up, not_come, refused_status, written_behind}
+use Rattle.fg_top.proofs.EndLemmas.{ends_unwritten, not_come, refused_status, written_behind}
 
 -- what is written of all these iterations is what a watch that reports tells of them
 concat_told : (each : Bool) (show : VState → Value) (finished : List Finished) →
@@ -162,13 +162,25 @@ broken_run rules wish (Some one) run_of t0 t1 grew (k, part, within, shown) = re
   wrote = broken_text wish.each rules.show (run_of one).finished t0 t1 k part shown;
 }
 
+-- the end of a run whose put failed, by what ended its work else: want of memory, or a drive's fault
+ends_broken : {D A : Type 0} (faults : D → ℕ) (olds news : List D) (rules : Rules) (wish : Wish) (told : Option A) (run_of : A → Run) (leaves : Option Refusal → Type 0)
+    (refusal : Refusal) (f0 f1 f2 : ℕ) (t0 t1 t2 : Option (List ℕ)) (back : Bool) (status : ℕ) → (broken : Broken rules wish told run_of t0 t1) →
+    IsCause faults olds news (RunComesTo rules wish told run_of) (Some refusal) (concat (take broken.count broken.outcome.lines) ++ refusal_line refusal) → leaves (Some refusal) →
+    Rose f0 f1 → IsGivenUp (output_over f1 f2 t1 t2 back) status → Ends faults olds news (RunComesTo rules wish told run_of) leaves (output_over f0 f2 t0 t2 back) status
+ends_broken faults olds news rules wish told run_of leaves refusal f0 f1 f2 t0 t1 t2 back status broken cause left rose closed =
+    let first = concat (take broken.count broken.outcome.lines) in
+    let From : ℕ → Type 0 = λ count. Rose f0 count in
+    let To : Option (List ℕ) → Type 0 = λ text. GrewByFirst first t0 text in
+    ends_unwritten faults olds news (RunComesTo rules wish told run_of) leaves refusal first f0 f2 t0 t2 back status cause left
+    (subst From (sym closed.faults) rose) (subst To (sym closed.text) broken.wrote) closed.failed
+
 -- the end of a run, by what it answered, whose count rose and what was shown
 pub ends_of_run : {D A : Type 0} (faults : D → ℕ) (olds news : List D) (rules : Rules) (wish : Wish) (told : Option A) (run_of : A → Run)
     (leaves : Option Refusal → Type 0) (answer : Result End RunFault) (f0 f1 f2 : ℕ) (t0 t1 t2 : Option (List ℕ)) (back : Bool) (status : ℕ) →
     ((end : Option Refusal) → leaves end) →
     Grew t0 t1 →
     IfSome told (λ one. TellsEnd answer (run_of one)) →
-    TellsFaults answer (NoneRose faults olds news) (λ drive. RoseFirst faults drive olds news) f0 f1 →
+    TellsWhose faults answer olds news f0 f1 →
     IfSome told (λ one. ShownAs answer (iteration_text wish.each rules.show) (run_of one).finished t0 t1) →
     IsClosed wish.quiet rules.show (output_over f1 f2 t1 t2 back) answer status →
     Ends faults olds news (RunComesTo rules wish told run_of) leaves (output_over f0 f2 t0 t2 back) status
@@ -214,12 +226,14 @@ ends_of_run faults olds news rules wish told run_of leaves (Err (RunFault.BadEdg
       left = left (Some (Refusal.BadEdge edge));
       written = written_behind f0 f1 f2 t0 t1 t2 back (Some (Refusal.BadEdge edge)) (concat whole.outcome.lines) line status counts.1 whole.wrote closed;
     }
-ends_of_run faults olds news rules wish told run_of leaves (Err RunFault.Watch) f0 f1 f2 t0 t1 t2 back status left grew ends counts shown closed =
+ends_of_run faults olds news rules wish told run_of leaves (Err RunFault.Watch) f0 f1 f2 t0 t1 t2 back status left grew ends ((None, kept), rose) shown closed =
     let broken = broken_run rules wish told run_of t0 t1 grew shown in
-    let From : ℕ → Type 0 = λ count. Rose f0 count in
-    let To : Option (List ℕ) → Type 0 = λ text. GrewByFirst (concat (take broken.count broken.outcome.lines)) t0 text in
-    ends_given_up faults olds news (RunComesTo rules wish told run_of) leaves broken.outcome broken.count f0 f2 t0 t2 back status broken.is_one counts.0 (left (Some Refusal.Memory))
-    (subst From (sym closed.faults) counts.1) (subst To (sym closed.text) broken.wrote) closed.failed
+    ends_broken faults olds news rules wish told run_of leaves Refusal.Memory f0 f1 f2 t0 t1 t2 back status broken
+    (kept, record { outcome = broken.outcome; is_one = broken.is_one; count = broken.count; text_is = refl }) (left (Some Refusal.Memory)) rose closed
+ends_of_run faults olds news rules wish told run_of leaves (Err RunFault.Watch) f0 f1 f2 t0 t1 t2 back status left grew ends ((Some drive, failed), rose) shown closed =
+    let broken = broken_run rules wish told run_of t0 t1 grew shown in
+    ends_broken faults olds news rules wish told run_of leaves (Refusal.DriveFault drive) f0 f1 f2 t0 t1 t2 back status broken
+    (failed, record { outcome = broken.outcome; is_one = broken.is_one; count = broken.count; text_is = refl }) (left (Some (Refusal.DriveFault drive))) rose closed
 
 -- where the status is 0 the run has an end
 pub run_is_ok : (quiet : Bool) (show : VState → Value) (f1 f2 : ℕ) (t1 t2 : Option (List ℕ)) (back : Bool) (answer : Result End RunFault) (status : ℕ) (P : Type 0) →
@@ -274,12 +288,12 @@ closed_not_held quiet show f1 f2 t1 t2 back (Err RunFault.Watch) status closed i
 
 -- whose count rose in a run in memory, as in a run that has no drives
 pub plain_counts : (answer : Result End RunFault) (f0 f1 : ℕ) → TellsFaults answer (Unit {0}) (λ drive. ⊥) f0 f1 →
-    TellsFaults answer (NoneRose {D = ℕ} (λ drive. drive) [] []) (λ number. RoseFirst {D = ℕ} (λ drive. drive) number [] []) f0 f1
+    TellsWhose {D = ℕ} (λ drive. drive) answer [] [] f0 f1
 plain_counts (Ok end) f0 f1 counts = counts
 plain_counts (Err RunFault.Memory) f0 f1 counts = counts
 plain_counts (Err (RunFault.Drive drive)) f0 f1 counts = absurd counts.0
 plain_counts (Err (RunFault.BadEdge bad)) f0 f1 counts = counts
-plain_counts (Err RunFault.Watch) f0 f1 counts = counts
+plain_counts (Err RunFault.Watch) f0 f1 counts = ((None, counts.0), counts.1)
 
 -- there are few states
 pub few_states : (graph : Graph) (answer : Result End RunFault) → graph.n ≤ 2 ^ 24 →

@@ -4,15 +4,16 @@ use Rattle.fg_base.specs.Refusal.{status_of}
 use Rattle.fg_base.specs.declared.refusal.Refusal.{Refusal}
 use Rattle.fg_build.specs.declared.opened.Opened.{Opened}
 use Rattle.fg_build.specs.Opening.{opening_of}
+use Rattle.fg_engine.specs.Tallies.{RoseWithBegun, RoseWithin, Tallied, tallied}
 use Rattle.fg_model.specs.Iteration.{Begun}
 use Rattle.fg_model.specs.Run.{begun_of}
 use Rattle.fg_top.specs.declared.wish.Wish.{Wish}
-use Rattle.fg_top.specs.Calls.{Output, Tallied, tallied}
+use Rattle.fg_top.specs.Calls.{Output}
 use Rattle.fg_top.specs.Ends.{IsWritten}
 use Rattle.fg_top.specs.Outcome.{held_graph, run_on}
 use Rattle.fg_top.specs.Running.{IsSourced}
 use Rattle.fg_top.specs.Statuses.{CameToEnd}
-use Rattle.fg_top.specs.Tallies.{RoseWithBegun, RoseWithin, begins_of}
+use Rattle.fg_top.specs.Tallies.{begins_of}
 use Rattle.fg_top.proofs.EndLemmas.{refused_status}
 use Rattle.fg_top.proofs.OutcomeLemmas.{begins_run}
 
@@ -48,9 +49,11 @@ went_refused wish (Some helds) refusal output text status runs entries unbegun w
     none_began (CameToEnd status) (begins_of wish (held_graph helds)) runs entries (λ came. unbegun (graph_status output refusal text status written came))
 
 -- the output failed before the first iteration
-pub went_given_up : (all : List Begun) (status runs entries : ℕ) → status ≡ 4 → RoseWithin (CameToEnd status) all (tallied runs runs entries entries)
-went_given_up all status runs entries is =
-    none_began (CameToEnd status) all runs entries
+pub went_given_up : (wish : Wish) (told : Option (List (List ℕ))) (status runs entries : ℕ) → status ≡ 4 →
+    IfSome told (λ helds. RoseWithin (CameToEnd status) (begins_of wish (held_graph helds)) (tallied runs runs entries entries))
+went_given_up wish None status runs entries is = tt
+went_given_up wish (Some helds) status runs entries is =
+    none_began (CameToEnd status) (begins_of wish (held_graph helds)) runs entries
     (⊎_elim (λ zero. let four : ◌≡◌ {A = ℕ} 4 0 = sym is ∙ zero in cc) (λ eight. let four : ◌≡◌ {A = ℕ} 4 8 = sym is ∙ eight in cc))
 
 -- the run on the drives is the run that is wished for

@@ -1,17 +1,16 @@
 -- Calls whose words weren't read for want of memory: nothing happens, and whatever the job is its promise is kept.
-use Rattle.std.proofs.Common.{◌≡◌, ◌≢◌, ◌∙◌, ⊎_elim, ℕ, ◌/◌, [], Bool, true, false, Option, None, Some, IfSome, Result, Ok, Err, List, length, refl, sym, subst, inl, inr, arith}
-use Rattle.fg_base.specs.Refusal.{status_of}
-use Rattle.fg_base.specs.Told.{led_by}
+use Rattle.std.proofs.Common.{◌≡◌, ◌≢◌, ◌∙◌, ⊎_elim, ℕ, ◌/◌, [], Bool, true, false, Option, None, Some, IfSome, Result, Ok, Err, List, length, refl, sym, inl, inr, arith}
 use Rattle.fg_base.specs.declared.refusal.Refusal.{Refusal}
 use Rattle.fg_base.specs.declared.refusal.WordFault.{WordFault}
 use Rattle.fg_build.specs.Layouts.{Plan, drive_bytes}
 use Rattle.fg_build.specs.OpeningReads.{opening_reads}
+use Rattle.fg_engine.specs.Tallies.{RoseWithin, tallied}
 use Rattle.fg_model.specs.Edges.{EdgeList}
 use Rattle.fg_model.specs.Iteration.{Begun}
 use Rattle.fg_outside.specs.declared.drive.Drive.{Ghosts as DriveGhosts}
 use Rattle.fg_outside.specs.declared.drive.Read.{Read}
 use Rattle.fg_outside.specs.Pages.{HasRoom}
-use Rattle.fg_outside.specs.Drives.{DriveRead, EachSame, LogsGrew, LogsGrewByFirst, all_told}
+use Rattle.fg_outside.specs.Drives.{DriveRead, LogsGrew, LogsGrewByFirst, all_told}
 use Rattle.fg_outside.proofs.DriveLemmas.{EachDriveFrom-same, LogsGrewByFirst-none, LogsGrew-none, all_told-length}
 use Rattle.fg_report.specs.Refusals.{refusal_line}
 use Rattle.fg_text.specs.Generator.{generated_text}
@@ -20,18 +19,17 @@ use Rattle.fg_text.specs.Text.{read_text}
 use Rattle.fg_top.specs.declared.wish.Wish.{Wish}
 use Rattle.fg_top.specs.BuildJob.{plan_over}
 use Rattle.fg_top.specs.Built.{IsKeptBy, IsKeptByBuild}
-use Rattle.fg_top.specs.Calls.{Call, Output, WhereTold, tallied, told_by}
+use Rattle.fg_top.specs.Calls.{Call, Output, WhereTold, told_by}
 use Rattle.fg_top.specs.CheckJob.{check_reads}
 use Rattle.fg_top.specs.Ends.{IsCutShort, IsWritten}
 use Rattle.fg_top.specs.JobPromises.{once_read, promise_by, promise_of}
 use Rattle.fg_top.specs.Keeping.{Keeps, KeepsTally}
-use Rattle.fg_top.specs.LargeJob.{LargeComesTo, generated_graph, recipe_for}
-use Rattle.fg_top.specs.Outcome.{Done, Outcome, Refuses, WishComesTo, at_once, outcome_on, wish_for}
+use Rattle.fg_top.specs.LargeJob.{generated_graph, recipe_for}
+use Rattle.fg_top.specs.Outcome.{Done, Refuses, at_once, outcome_on, wish_for}
 use Rattle.fg_top.specs.Promise.{Promise}
 use Rattle.fg_top.specs.Reads.{RunReads, ref_reads}
 use Rattle.fg_top.specs.Running.{words_refusal}
-use Rattle.fg_top.specs.Statuses.{CameToEnd, RefusedDrives}
-use Rattle.fg_top.specs.Tallies.{RoseWithin, Stood}
+use Rattle.fg_top.specs.Statuses.{CameToEnd}
 use Rattle.fg_top.proofs.BuildEnds.{cut_build}
 use Rattle.fg_top.proofs.CheckEnds.{cut_check}
 use Rattle.fg_top.proofs.EndLemmas.{not_come, refused_status}

@@ -1,6 +1,5 @@
--- What stands around a call: its drives, its source, its sink and its tally, each before and after it.
+-- What stands around a call: its drives, its source and its sink, each before and after it.
 use Rattle.std.specs.Prelude.{ℕ, Bool, Option, IfSome, List}
-use Rattle.fg_base.specs.declared.tally.Tally.{Ghosts as TallyGhosts}
 use Rattle.fg_outside.specs.declared.drive.Drive.{Ghosts as DriveGhosts}
 use Rattle.fg_outside.specs.declared.sink.Sink.{Ghosts as SinkGhosts}
 use Rattle.fg_outside.specs.declared.source.Source.{Ghosts as SourceGhosts}
@@ -35,20 +34,6 @@ output_over old_faults new_faults old_text new_text keeps_back =
 abbrev pub output_between : {K : Type 0} → SinkGhosts K → K → K → Output
 output_between tells old new =
     output_over (tells.faults old) (tells.faults new) (tells.written old) (tells.written new) (tells.keeps_back new)
-
--- a tally: its two numbers
-pub record Tallied : Type 0 where
-  pub old_runs : ℕ
-  pub new_runs : ℕ
-  pub old_entries : ℕ
-  pub new_entries : ℕ
-
-abbrev pub tallied : ℕ → ℕ → ℕ → ℕ → Tallied
-tallied old_runs new_runs old_entries new_entries =
-    record { old_runs = old_runs; new_runs = new_runs; old_entries = old_entries; new_entries = new_entries }
-
-abbrev pub tally_between : {T : Type 0} → TallyGhosts T → T → T → Tallied
-tally_between tells old new = tallied (tells.runs old) (tells.runs new) (tells.entries old) (tells.entries new)
 
 -- a call: the drives, by what their kind tells, the source, the sink, and the status that is answered
 pub record Call (D : Type 0) : Type 1 where

@@ -1,5 +1,5 @@
 -- What a check of an image promises.
-use Rattle.std.specs.Prelude.{◌≡◌, ℕ, Option, None, Some, Result, Ok, Err, List, [], ◌++◌, ◌⊎◌, codes, decimal}
+use Rattle.std.specs.Prelude.{◌≡◌, ℕ, Option, None, Some, Result, Ok, Err, List, [], ◌++◌, ◌⊎◌, codes}
 use Rattle.fg_base.specs.declared.refusal.Refusal.{Refusal}
 use Rattle.fg_build.specs.declared.opened.Opened.{Opened}
 use Rattle.fg_build.specs.Answers.{MatchOpening}

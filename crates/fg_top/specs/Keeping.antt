@@ -1,12 +1,12 @@
 -- How a call keeps what its job promises.
 use Rattle.std.specs.Prelude.{◌≡◌, ℕ, ◌≤◌, Option, IfSome, List}
+use Rattle.fg_engine.specs.Tallies.{RoseWithin, Tallied}
 use Rattle.fg_outside.specs.declared.drive.Drive.{Ghosts as DriveGhosts}
 use Rattle.fg_outside.specs.Drives.{EachSame, all_told}
-use Rattle.fg_top.specs.Calls.{Call, Input, Tallied, WhereTold}
+use Rattle.fg_top.specs.Calls.{Call, Input, WhereTold}
 use Rattle.fg_top.specs.Ends.{EndsLeaving}
 use Rattle.fg_top.specs.Promise.{OfDrives, OfInput, OfReads, OfTally, Promise}
 use Rattle.fg_top.specs.Statuses.{CameToEnd, RefusedDrives, RefusedFirst, RefusedText, Succeeded}
-use Rattle.fg_top.specs.Tallies.{RoseWithin}
 
 -- the drives come back in order, with what the job may have appended
 pub record KeepsDrives {D : Type 0} (promise : OfDrives D) (call : Call D) : Type 0 where

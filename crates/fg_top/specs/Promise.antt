@@ -1,9 +1,10 @@
 -- What a job promises of each call. A job's own file states its promise, most of it by what is promised where nothing happens.
 use Rattle.std.specs.Prelude.{◌≡◌, ℕ, Option, List, []}
 use Rattle.fg_base.specs.declared.refusal.Refusal.{Refusal}
+use Rattle.fg_engine.specs.Tallies.{Tallied}
 use Rattle.fg_model.specs.Iteration.{Begun}
 use Rattle.fg_outside.specs.Drives.{EachSame, LogsGrew, RoomyKept}
-use Rattle.fg_top.specs.Calls.{Call, Input, Output, Tallied}
+use Rattle.fg_top.specs.Calls.{Call, Input, Output}
 use Rattle.fg_top.specs.Outcome.{Outcome}
 use Rattle.fg_top.specs.Tallies.{Stood}
 

@@ -1,5 +1,6 @@
 -- What a run reads of its drives.
 use Rattle.std.specs.Prelude.{ℕ, Option, None, Some, Result, Ok, Err, List, [], ◌++◌, ◌⊎◌, All, nat_le, if◌then◌else◌}
+use Rattle.fg_base.specs.declared.limits.TheConstants.{MAX_RUN_PAGES}
 use Rattle.fg_base.specs.declared.refusal.Refusal.{Refusal}
 use Rattle.fg_build.specs.declared.opened.Opened.{Opened}
 use Rattle.fg_build.specs.Opening.{opening_of}
@@ -11,11 +12,11 @@ use Rattle.fg_build.specs.Asked.{IsAsked}
 use Rattle.fg_top.specs.declared.wish.Wish.{Wish}
 use Rattle.fg_top.specs.Outcome.{rules_of, run_on, source_of}
 
--- the read is of a page that the wished run asks for, on drives that hold these bytes and open so
+-- the read is of pages that the wished run asks for, on drives that hold these bytes and open so
 abbrev pub IsAskedBy : Wish → List (List ℕ) → Result Opened Refusal → DriveRead → Type 0
 IsAskedBy wish helds (Err refusal) read = ⊥
 IsAskedBy wish helds (Ok opened) read =
-    IsAsked 1 opened.layout opened.index (rules_of wish.pick) (begun_of (run_on wish opened helds)) read
+    IsAsked MAX_RUN_PAGES opened.layout opened.index (rules_of wish.pick) (begun_of (run_on wish opened helds)) read
 
 -- the logs grew by all reads of opening, and then by pages that the run asks for
 abbrev pub RunReadsAll : {D : Type 0} → (D → Option (List Read)) → Wish → List (List ℕ) → List D → List D → Type 0

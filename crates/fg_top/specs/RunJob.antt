@@ -4,11 +4,12 @@ use Rattle.fg_base.specs.Refusal.{status_of}
 use Rattle.fg_base.specs.declared.refusal.Refusal.{Refusal}
 use Rattle.fg_build.specs.declared.opened.Opened.{Opened}
 use Rattle.fg_build.specs.PagesTold.{RefusedTold}
+use Rattle.fg_engine.specs.Tallies.{RoseByRun, RoseWithin, Tallied}
 use Rattle.fg_model.specs.Run.{begun_of}
 use Rattle.fg_outside.specs.declared.drive.Drive.{Ghosts as DriveGhosts}
 use Rattle.fg_outside.specs.Drives.{EachSame, LogsGrewBy, RoomyKept, all_told}
 use Rattle.fg_top.specs.declared.wish.Wish.{Wish}
-use Rattle.fg_top.specs.Calls.{Output, Tallied, told_by}
+use Rattle.fg_top.specs.Calls.{Output, told_by}
 use Rattle.fg_top.specs.Ends.{Ends, LeavesHeld}
 use Rattle.fg_top.specs.Meaning.{MeansWish}
 use Rattle.fg_top.specs.Outcome.{WishComesTo, held_graph, rules_of, run_on}
@@ -16,7 +17,7 @@ use Rattle.fg_top.specs.Promise.{OfDrives, OfReads, OfTally, Promise, alone, lef
 use Rattle.fg_top.specs.Reads.{IsAskedBy, RunReads, RunReadsAll}
 use Rattle.fg_top.specs.Running.{RunComesTo}
 use Rattle.fg_top.specs.Statuses.{CameToEnd, RefusedDrives, Succeeded}
-use Rattle.fg_top.specs.Tallies.{RoseByRun, RoseByWish, RoseWithin, Stood, begins_of}
+use Rattle.fg_top.specs.Tallies.{RoseByWish, Stood, begins_of}
 
 -- drives that are refused for what they hold, by the numbers of pages that they told: whether or not they tell their bytes
 pub record OpeningRefused {D : Type 0} (told : D → ℕ) (olds news : List D) : Type 0 where

@@ -3,15 +3,18 @@
 ghost use Rattle.std.specs.Prelude.{◌≡◌, ◌≤◌, ◌^◌, IfErr, IfOk};
 ghost use Rattle.fg_base.specs.declared.limits.TheConstants.{MAX_DRIVES, MAX_ENTRIES, MAX_IMAGE_PAGES, MAX_UNIT, MAX_VERTICES};
 ghost use Rattle.fg_build.specs.Layouts.{plan_of};
+ghost use Rattle.fg_engine.specs.Tallies.{RoseWithin, tally_between};
 ghost use Rattle.fg_text.specs.Generator.{generated_text};
 ghost use Rattle.fg_text.specs.Made.{MadeRefused};
-ghost use Rattle.fg_top.specs.Calls.{output_between, tally_between};
+ghost use Rattle.fg_top.specs.Calls.{output_between};
 ghost use Rattle.fg_top.specs.Ends.{EndsAlone};
+ghost use Rattle.fg_top.specs.Engines.{FitsLimits};
 ghost use Rattle.fg_top.specs.LargeJob.{LargeComesTo, MeansGenerated, generated_graph};
 ghost use Rattle.fg_top.specs.MadeDrives.{AreEmptyFor, HoldGenerated};
 ghost use Rattle.fg_top.specs.Statuses.{CameToEnd};
-ghost use Rattle.fg_top.specs.Tallies.{RoseByWish, RoseWithin, Stood, begins_of};
+ghost use Rattle.fg_top.specs.Tallies.{RoseByWish, Stood, begins_of};
 
+use crate::engine::Engine;
 use crate::report::refuse;
 use crate::run::run_job;
 use crate::wish::Wish;
@@ -24,6 +27,8 @@ use fg_stripe::striping::need_on;
 use fg_text::generate_edges;
 use fg_words::Recipe;
 use std::alloc::Global;
+use std::sync::Wait;
+use std::thread::Threads;
 
 /// Empty drives, each with just the room that it needs for its part of an image that is laid out so.
 fn empty_drives(alloc: Global, layout: &Layout) -> Result<Vec<RoomDrive>, Memory>
@@ -91,9 +96,11 @@ fn make_drives(
 
 /// Does a run on the graph of generated edges: they are generated, their image is built over so many drives in memory, in
 /// units of so many pages, and then it is run on as on any other. No drive of these can fail.
-pub fn large_job<K: Sink, T: Tally>(
+pub fn large_job<R: Threads + Wait + Sync, K: Sink, T: Tally + Send>(
+    rt: &R,
     alloc: Global,
     wish: Wish,
+    engine: Engine,
     recipe: Recipe,
     unit: u32,
     count: u32,
@@ -107,6 +114,7 @@ pub fn large_job<K: Sink, T: Tally>(
     requires few { count ≤ MAX_DRIVES }
     requires some_unit { 1 ≤ unit }
     requires small_unit { unit ≤ MAX_UNIT }
+    requires engine { FitsLimits engine }
     requires room_of_runs { T.runs tally.old ≤ 2 ^ 62 }
     requires room_of_entries { T.entries tally.old ≤ 2 ^ 62 }
     ensures ends { EndsAlone (LargeComesTo wish recipe)
@@ -123,5 +131,5 @@ pub fn large_job<K: Sink, T: Tally>(
         Ok(drives) => drives,
         Err(refusal) => return refuse(out, refusal),
     };
-    run_job(alloc, wish, &mut drives, out, tally)
+    run_job(rt, alloc, wish, engine, &mut drives, out, tally)
 }

@@ -7,38 +7,36 @@
 #![tactic(auto)]
 
 ghost use Rattle.std.specs.Prelude.{◌≡◌, ◌≤◌, ◌^◌, length, map, string_bytes};
-ghost use Rattle.fg_top.specs.Calls.{call_of, tally_between};
+ghost use Rattle.fg_engine.specs.Tallies.{tally_between};
+ghost use Rattle.fg_top.specs.Calls.{call_of};
 ghost use Rattle.fg_top.specs.JobPromises.{promised};
 ghost use Rattle.fg_top.specs.Keeping.{Keeps, Tallies};
 ghost use Rattle.fg_words.specs.Words.{names_of};
 
-mod begin_runs;
 mod building;
 mod built_line;
 mod checked_line;
 mod checking;
+mod engine;
+#[cfg(test)]
+mod engine_tests;
 mod generating;
-mod image_page;
 mod in_memory;
 #[cfg(test)]
 mod job_tests;
 mod large;
-mod lists;
 mod opening;
-mod paged;
-mod pages;
 mod picked;
 mod report;
 mod run;
-mod send;
-mod send_all;
-mod send_list;
-mod send_vertex;
 mod still_jobs;
+#[cfg(test)]
+mod test_calls;
 #[cfg(test)]
 mod tests;
 mod wish;
 
+use crate::engine::Engine;
 use crate::large::large_job;
 use crate::report::{refusal_of_words, refuse};
 use crate::run::run_job;
@@ -78,9 +76,9 @@ pub fn flash<R: Wait + Threads + Sync, S: Source, D: Drive + Send, K: Sink, T: T
         Ok(job) => job,
         Err(fault) => return refuse(out, refusal_of_words(fault)),
     };
-    if job.is_still() {
+    let Some(engine) = Engine::of(&job) else {
         return still(alloc, &job, input, drives, out);
-    }
+    };
     match job {
         Job::Run {
             pick,
@@ -88,7 +86,10 @@ pub fn flash<R: Wait + Threads + Sync, S: Source, D: Drive + Send, K: Sink, T: T
             each,
             quiet,
             ..
-        } => run_job(alloc, Wish::new(pick, max, each, quiet), drives, out, tally),
+        } => {
+            let wish = Wish::new(pick, max, each, quiet);
+            run_job(rt, alloc, wish, engine, drives, out, tally)
+        }
         Job::Large {
             pick,
             max,
@@ -107,7 +108,7 @@ pub fn flash<R: Wait + Threads + Sync, S: Source, D: Drive + Send, K: Sink, T: T
                 edges,
                 undirected,
             };
-            large_job(alloc, wish, recipe, unit, count, out, tally)
+            large_job(rt, alloc, wish, engine, recipe, unit, count, out, tally)
         }
         Job::Build { .. } | Job::Ref { .. } | Job::Check | Job::Gen { .. } => unreachable!(),
     }

@@ -1,30 +1,35 @@
-//! The work of a run over pages that are read from the drives.
+//! The work of a run over the drives.
 
 ghost use Rattle.std.specs.Prelude.{◌≡◌, ◌≤◌, ◌^◌, IfSome, Ok, length};
 ghost use Rattle.fg_base.specs.declared.limits.TheConstants.{MAX_DRIVES};
 ghost use Rattle.fg_build.specs.Answers.{HoldWhole, OpenedFits};
+ghost use Rattle.fg_engine.specs.Tallies.{RoseWithin, tally_between};
 ghost use Rattle.fg_outside.specs.Drives.{EachSame, RoomyKept, all_told};
-ghost use Rattle.fg_top.specs.Calls.{output_between, tally_between};
+ghost use Rattle.fg_top.specs.Calls.{output_between};
 ghost use Rattle.fg_top.specs.Ends.{Ends, LeavesHeld};
+ghost use Rattle.fg_top.specs.Engines.{FitsLimits};
 ghost use Rattle.fg_top.specs.Meaning.{MeansWish};
 ghost use Rattle.fg_top.specs.Outcome.{WishComesTo, held_graph, rules_of};
 ghost use Rattle.fg_top.specs.Reads.{RunReads, RunReadsAll};
 ghost use Rattle.fg_top.specs.RunJob.{OpeningRefused, RunsOpened};
 ghost use Rattle.fg_top.specs.Statuses.{CameToEnd};
-ghost use Rattle.fg_top.specs.Tallies.{RoseByWish, RoseWithin, Stood, begins_of};
+ghost use Rattle.fg_top.specs.Tallies.{RoseByWish, Stood, begins_of};
 
+use crate::engine::Engine;
 use crate::opening::open_sourced;
-use crate::paged::{Paged, run_paged};
 use crate::picked::with_picked;
 use crate::report::{close_run, refuse, write_head_of};
 use crate::wish::Wish;
 use fg_base::{Refusal, Tally};
 use fg_build::Opened;
+use fg_engine::{RunDone, run_program};
 use fg_model::Program;
 use fg_outside::{Drive, Sink};
 use fg_report::ReportWatch;
 use std::alloc::Global;
 use std::mem;
+use std::sync::Wait;
+use std::thread::Threads;
 
 /// The drives as they come back, and the status.
 struct Reported<D> {
@@ -33,16 +38,25 @@ struct Reported<D> {
 }
 
 /// The run of the picked program over the drives that were opened, with all that is written behind its head.
-fn report_run<P: Program, D: Drive, K: Sink, T: Tally>(
+fn report_run<
+    R: Threads + Wait + Sync,
+    P: Program + Sync,
+    D: Drive + Send,
+    K: Sink,
+    T: Tally + Send,
+>(
+    rt: &R,
     alloc: Global,
     program: &P,
     wish: Wish,
+    engine: Engine,
     opened: Opened,
     drives: Vec<D>,
     out: &mut K,
     tally: &mut T,
 ) -> Reported<D>
     requires picked { P.rules program.now ≡ rules_of wish.pick }
+    requires engine { FitsLimits engine }
     requires fits { OpenedFits opened }
     requires told { HoldWhole D.told opened.layout drives.items }
     requires room_of_runs { T.runs tally.old ≤ 2 ^ 62 }
@@ -55,10 +69,14 @@ fn report_run<P: Program, D: Drive, K: Sink, T: Tally>(
         out,
         each: wish.each,
     };
-    let Paged {
+    let options = engine.options(wish.max);
+    let RunDone {
         drives: back,
         answer,
-    } = run_paged(alloc, drives, opened, program, wish.max, &mut watch, tally);
+        ..
+    } = run_program(
+        rt, alloc, drives, opened, program, options, &mut watch, tally,
+    );
     let status = close_run(watch.out, program, wish.quiet, answer);
     Reported {
         drives: back,
@@ -67,14 +85,17 @@ fn report_run<P: Program, D: Drive, K: Sink, T: Tally>(
 }
 
 /// The same of whichever program is picked.
-fn run_picked<D: Drive, K: Sink, T: Tally>(
+fn run_picked<R: Threads + Wait + Sync, D: Drive + Send, K: Sink, T: Tally + Send>(
+    rt: &R,
     alloc: Global,
     wish: Wish,
+    engine: Engine,
     opened: Opened,
     drives: Vec<D>,
     out: &mut K,
     tally: &mut T,
 ) -> Reported<D>
+    requires engine { FitsLimits engine }
     requires fits { OpenedFits opened }
     requires told { HoldWhole D.told opened.layout drives.items }
     requires room_of_runs { T.runs tally.old ≤ 2 ^ 62 }
@@ -82,19 +103,22 @@ fn run_picked<D: Drive, K: Sink, T: Tally>(
     ensures { RunsOpened wish opened D.Drive drives.items result.drives.items (output_between K.Sink out.old out.new)
         (tally_between T.Tally tally.old tally.new) result.status }
 {
-    with_picked!(wish.pick, program => report_run(alloc, &program, wish, opened, drives, out, tally))
+    with_picked!(wish.pick, program => report_run(rt, alloc, &program, wish, engine, opened, drives, out, tally))
 }
 
 /// Does a run over the drives: they are opened, the source is looked at, and then the run is written, its head first.
-pub fn run_job<D: Drive, K: Sink, T: Tally>(
+pub fn run_job<R: Threads + Wait + Sync, D: Drive + Send, K: Sink, T: Tally + Send>(
+    rt: &R,
     alloc: Global,
     wish: Wish,
+    engine: Engine,
     drives: &mut Vec<D>,
     out: &mut K,
     tally: &mut T,
 ) -> u8
     requires some { 1 ≤ length drives.old.items }
     requires few { length drives.old.items ≤ MAX_DRIVES }
+    requires engine { FitsLimits engine }
     requires room_of_runs { T.runs tally.old ≤ 2 ^ 62 }
     requires room_of_entries { T.entries tally.old ≤ 2 ^ 62 }
     ensures ends { Ends D.faults drives.old.items drives.new.items
@@ -126,7 +150,7 @@ pub fn run_job<D: Drive, K: Sink, T: Tally>(
     let Reported {
         drives: back,
         status,
-    } = run_picked(alloc, wish, opened, taken, out, tally);
+    } = run_picked(rt, alloc, wish, engine, opened, taken, out, tally);
     *drives = back;
     status
 }

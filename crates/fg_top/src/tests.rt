@@ -1,14 +1,17 @@
 //! `flash` on the image of the edges 0 1, 0 2, 1 3, 2 3 and 3 4, and on that of 0 1 and 1 0: the text of each program, each
 //! refusal, and each call of the outside failing in turn.
 
-ghost use Rattle.std.specs.Prelude.{◌≡◌, ◌≤◌, IfOk, vec_len};
+ghost use Rattle.std.specs.Prelude.{◌≤◌};
 
-use crate::{drive_names, flash};
+use crate::test_calls::{
+    COMPONENTS, COMPONENTS_FIRST, COMPONENTS_HEAD, COMPONENTS_SECOND, DriveFails, Fails, LEVELS,
+    LEVELS_FIRST, LEVELS_HEAD, Left, Lines, Log, NO_DRIVE_FAILS, call, drive as fake_drive, ends,
+    is_log,
+};
 use byteorder::{ByteOrder, LittleEndian};
-use fg_base::Count;
 use fg_base::limits::{MAX_DRIVES, PAGE_BYTES};
 use fg_build::sample::{DIAMOND, Numbers};
-use fg_outside::{Drive, DriveOp, MemDrive, MemSink, MemSource};
+use fg_outside::{Drive, DriveOp, MemDrive};
 use fg_stripe::Label;
 use std::alloc::{AllocError, Global};
 use std::process::Abort;
@@ -75,32 +78,24 @@ struct Setting {
     change: (usize, u32),
     /// The pages of the image that the drives hold.
     pages: usize,
-    /// The call of the last drive that fails.
-    drive_fails: Option<(DriveOp, u32)>,
-    /// The put that fails.
-    put_fails: Option<u32>,
+    drives: usize,
+    drive_fails: DriveFails,
+    /// The put that fails, from 1; 0 is none.
+    put_fails: u32,
 }
 
 /// The image's magic stands at 0.
 const NO_CHANGE: (usize, u32) = (0, 0x4d49_4746);
 
-/// The diamond as it should be.
+/// The diamond on one drive, as it should be.
 const SOUND: Setting = Setting {
     numbers: DIAMOND,
     change: NO_CHANGE,
     pages: PAGES,
-    drive_fails: None,
-    put_fails: None,
+    drives: 1,
+    drive_fails: NO_DRIVE_FAILS,
+    put_fails: 0,
 };
-
-/// What a job left.
-#[derive(Drop)]
-struct Left {
-    status: u8,
-    text: MemSink,
-    drives: Vec<MemDrive>,
-    tally: Count,
-}
 
 fn put(bytes: &mut [u8], place: usize, number: u32) {
     if place <= bytes.len() && 4 <= bytes.len() - place {
@@ -136,11 +131,7 @@ fn drive(
         number: 7,
     };
     label.write(&mut page);
-    let mut fails = Vec::new(alloc);
-    if let Some(call) = setting.drive_fails {
-        fails.push(call)?;
-    }
-    let mut drive = MemDrive::new(alloc, Vec::new(alloc), fails);
+    let mut drive = fake_drive(alloc, number, 0, setting.drive_fails)?;
     drive.append(&page)?;
     let held = image.chunks_exact(PAGE_BYTES).take(setting.pages);
     for (k, bytes) in held.enumerate() {
@@ -151,153 +142,97 @@ fn drive(
     Ok(drive)
 }
 
-fn drives(alloc: Global, names: &Vec<String>, setting: Setting) -> Result<Vec<MemDrive>, Fail>
-    ensures { IfOk result (λ drives. vec_len drives ≡ vec_len names.now) }
-{
+fn drives(alloc: Global, setting: Setting) -> Result<Vec<MemDrive>, Fail> {
     let image = image(alloc, setting)?;
     let mut all = Vec::new(alloc);
-    for number in 0..names.len() {
-        all.push(drive(alloc, setting, &image, number, names.len())?)?;
+    for number in 0..setting.drives {
+        all.push(drive(alloc, setting, &image, number, setting.drives)?)?;
     }
     Ok(all)
 }
 
-fn run<R: Wait + Threads + Sync>(
+/// Does the job of the line, which is to end with this status and this text.
+fn run<R: Wait + Threads + Sync + Abort>(
     rt: &R,
     alloc: Global,
-    words: &[&str],
+    line: &str,
     setting: Setting,
-) -> Result<Left, Fail> {
-    let mut given = Vec::new(alloc);
-    for word in words {
-        given.push(String::from_str(alloc, word)?)?;
-    }
-    let names = drive_names(alloc, &given)?;
-    let mut drives = drives(alloc, &names, setting)?;
-    let mut fails = Vec::new(alloc);
-    if let Some(call) = setting.put_fails {
-        fails.push(call)?;
-    }
-    let mut text = MemSink::new(alloc, fails);
-    let mut input = MemSource::new(alloc, Vec::new(alloc), 1, Vec::new(alloc));
-    let mut tally = Count::new();
-    let status = flash(
-        rt,
-        alloc,
-        &given,
-        &mut input,
-        &mut drives,
-        &mut text,
-        &mut tally,
-    );
-    Ok(Left {
-        status,
-        text,
-        drives,
-        tally,
-    })
+    status: u8,
+    lines: &[&str],
+) -> Result<Left<MemDrive>, Fail> {
+    let drives = drives(alloc, setting)?;
+    let fails = Fails {
+        take: 0,
+        put: setting.put_fails,
+    };
+    let left = call(rt, alloc, line, "", drives, fails)?;
+    ends(rt, line, &left, status, lines);
+    Ok(left)
 }
 
-/// Whether these lines are the text, one behind the other.
-fn is_text(text: &[u8], lines: &[&str]) -> bool {
-    let mut rest = text;
-    for line in lines {
-        let Some(behind) = rest.strip_prefix(line.as_bytes()) else {
-            return false;
-        };
-        rest = behind;
-    }
-    rest.is_empty()
-}
+const RUN: &str = "run --program bfs --source 0 D0";
 
-const RUN: &[&str] = &["run", "--program", "bfs", "--source", "0", "D0"];
+const REF: &str = "ref --program bfs --source 0 D0";
 
-const REF: &[&str] = &["ref", "--program", "bfs", "--source", "0", "D0"];
+const CHECK: &str = "check D0";
 
-const CHECK: &[&str] = &["check", "D0"];
+/// Components by one worker over a cache of one page.
+const ONE_PAGE: &str = "run --program wcc --workers 1 --sets 1 --ways 1 D0";
 
-const HEAD: &str = "program bfs vertices 5 out 5 in 5\n";
+/// The reads of the image whole, on one drive.
+const WHOLE: Log = &[(0, 1), (1, 1), (4, 1), (1, 1), (2, 1), (3, 1), (4, 1)];
 
-const FIRST: &str = "iteration 0 phase 0 active 1 messages 2\n";
-
-const LINES: &[&str] = &[
-    HEAD,
-    FIRST,
-    "iteration 1 phase 0 active 2 messages 2\n",
-    "iteration 2 phase 0 active 1 messages 1\n",
-    "iteration 3 phase 0 active 1 messages 0\n",
-    "settled 4\n",
-    "0 0\n",
-    "1 1\n",
-    "2 1\n",
-    "3 2\n",
-    "4 3\n",
+/// The words, over how many drives, the text, the reads of each drive, and the vertex runs and the entries.
+const READS: &[(&str, usize, Lines, &[Log], (u64, u64))] = &[
+    (RUN, 1, LEVELS, &[&[(0, 1), (1, 1), (4, 1), (2, 1)]], (5, 5)),
+    (REF, 1, LEVELS, &[WHOLE], (0, 0)),
+    (
+        CHECK,
+        1,
+        &["checked vertices 5 out 5 in 5 plain pages 4 drives 1\n"],
+        &[WHOLE],
+        (0, 0),
+    ),
+    (
+        "run --program bfs --source 0 D0 D1",
+        2,
+        LEVELS,
+        &[&[(0, 1), (1, 1)], &[(0, 1), (2, 1), (1, 1)]],
+        (5, 5),
+    ),
+    (
+        "ref --program bfs --source 0 D0 D1",
+        2,
+        LEVELS,
+        &[
+            &[(0, 1), (1, 1), (1, 1), (2, 1)],
+            &[(0, 1), (2, 1), (1, 1), (2, 1)],
+        ],
+        (0, 0),
+    ),
 ];
 
-/// The pages that each drive was asked for, each alone.
-fn is_log<R: Abort>(rt: &R, left: &Left, want: &[&[u32]]) {
-    assert_eq!(rt; left.drives.len(), want.len());
-    for (drive, pages) in left.drives.iter().zip(want) {
-        let log = drive.log();
-        assert_eq!(rt; log.len(), pages.len());
-        for (read, page) in log.iter().zip(*pages) {
-            assert_eq!(rt; (read.first, read.count), (*page, 1));
+#[test]
+fn reads_what_it_needs(rt: HostRuntime) -> Result<(), Fail> {
+    for (line, drives, lines, logs, tally) in READS {
+        let setting = Setting {
+            drives: *drives,
+            ..SOUND
+        };
+        let left = run(&rt, rt.alloc(), line, setting, 0, lines)?;
+        for (drive, log) in left.drives.iter().zip(*logs) {
+            assert!(rt; is_log(drive.log(), log), "{line}");
         }
+        assert!(rt; left.tally == *tally, "{line}");
     }
-}
-
-#[test]
-fn prints_the_levels(rt: HostRuntime) -> Result<(), Fail> {
-    let alloc = rt.alloc();
-    let ran = run(&rt, alloc, RUN, SOUND)?;
-    assert_eq!(rt; ran.status, 0);
-    assert!(rt; is_text(ran.text.written(), LINES));
-    is_log(&rt, &ran, &[&[0, 1, 4, 2, 2, 2, 2]]);
-    assert_eq!(rt; (ran.tally.runs(), ran.tally.entries()), (5, 5));
-    let still = run(&rt, alloc, REF, SOUND)?;
-    assert_eq!(rt; still.status, 0);
-    assert!(rt; is_text(still.text.written(), LINES));
-    is_log(&rt, &still, &[&[0, 1, 4, 1, 2, 3, 4]]);
-    let checked = run(&rt, alloc, CHECK, SOUND)?;
-    assert_eq!(rt; checked.status, 0);
-    is_log(&rt, &checked, &[&[0, 1, 4, 1, 2, 3, 4]]);
-    assert_eq!(rt; (still.tally.runs(), still.tally.entries()), (0, 0));
-    Ok(())
-}
-
-#[test]
-fn prints_the_levels_on_two_drives(rt: HostRuntime) -> Result<(), Fail> {
-    let alloc = rt.alloc();
-    let words = &["run", "--program", "bfs", "--source", "0", "D0", "D1"];
-    let ran = run(&rt, alloc, words, SOUND)?;
-    assert_eq!(rt; ran.status, 0);
-    assert!(rt; is_text(ran.text.written(), LINES));
-    is_log(&rt, &ran, &[&[0, 1], &[0, 2, 1, 1, 1, 1]]);
-    let words = &["ref", "--program", "bfs", "--source", "0", "D0", "D1"];
-    let still = run(&rt, alloc, words, SOUND)?;
-    assert_eq!(rt; still.status, 0);
-    assert!(rt; is_text(still.text.written(), LINES));
-    is_log(&rt, &still, &[&[0, 1, 1, 2], &[0, 2, 1, 2]]);
     Ok(())
 }
 
 /// The words, and the text of the job.
-const TEXTS: &[(&[&str], Numbers, &[&str])] = &[
+const TEXTS: &[(&str, Numbers, Lines)] = &[
+    ("run --program wcc D0", DIAMOND, COMPONENTS),
     (
-        &["run", "--program", "wcc", "D0"],
-        DIAMOND,
-        &[
-            "program wcc vertices 5 out 5 in 5\n",
-            "iteration 0 phase 0 active 5 messages 10\n",
-            "iteration 1 phase 0 active 4 messages 8\n",
-            "iteration 2 phase 0 active 2 messages 4\n",
-            "iteration 3 phase 0 active 1 messages 1\n",
-            "settled 4\n",
-            "0 0\n1 0\n2 0\n3 0\n4 0\n",
-        ],
-    ),
-    (
-        &["run", "--program", "core", "D0"],
+        "run --program core D0",
         KITE,
         &[
             "program core vertices 4 out 4 in 4\n",
@@ -313,7 +248,7 @@ const TEXTS: &[(&[&str], Numbers, &[&str])] = &[
         &["checked vertices 4 out 4 in 4 plain pages 4 drives 1\n"],
     ),
     (
-        &["run", "--program", "rank", "--max", "2", "D0"],
+        "run --program rank --max 2 D0",
         PAIR,
         &[
             "program rank vertices 2 out 2 in 2\n",
@@ -325,7 +260,7 @@ const TEXTS: &[(&[&str], Numbers, &[&str])] = &[
         ],
     ),
     (
-        &["ref", "--program", "rank", "--max", "2", "--quiet", "D0"],
+        "ref --program rank --max 2 --quiet D0",
         PAIR,
         &[
             "program rank vertices 2 out 2 in 2\n",
@@ -336,16 +271,7 @@ const TEXTS: &[(&[&str], Numbers, &[&str])] = &[
         ],
     ),
     (
-        &[
-            "run",
-            "--program",
-            "sssp",
-            "--source",
-            "3",
-            "--each",
-            "--quiet",
-            "D0",
-        ],
+        "run --program sssp --source 3 --each --quiet D0",
         DIAMOND,
         &[
             "program sssp vertices 5 out 5 in 5\n",
@@ -358,17 +284,7 @@ const TEXTS: &[(&[&str], Numbers, &[&str])] = &[
         ],
     ),
     (
-        &[
-            "ref",
-            "--program",
-            "sssp",
-            "--source",
-            "0",
-            "--max",
-            "1",
-            "--each",
-            "D0",
-        ],
+        "ref --program sssp --source 0 --max 1 --each D0",
         DIAMOND,
         &[
             "program sssp vertices 5 out 5 in 5\n",
@@ -382,78 +298,107 @@ const TEXTS: &[(&[&str], Numbers, &[&str])] = &[
 
 #[test]
 fn prints_each_program(rt: HostRuntime) -> Result<(), Fail> {
-    for (words, numbers, lines) in TEXTS {
-        let left = run(&rt, rt.alloc(), words, Setting { numbers, ..SOUND })?;
-        assert_eq!(rt; left.status, 0);
-        assert!(rt; is_text(left.text.written(), lines));
+    for (line, numbers, lines) in TEXTS {
+        let setting = Setting { numbers, ..SOUND };
+        run(&rt, rt.alloc(), line, setting, 0, lines)?;
     }
     Ok(())
 }
 
-/// The words, the change, the pages; the status and the text.
-const REFUSALS: &[(&[&str], (usize, u32), usize, u8, &[&str])] = &[
+/// The words, what is done before, the status and the text.
+const REFUSALS: &[(&str, Setting, u8, Lines)] = &[
     (
-        &["run", "D0"],
-        (0, 0),
-        PAGES,
+        "run D0",
+        Setting { drives: 0, ..SOUND },
         2,
         &["refused: words missing program\n"],
     ),
     (
         RUN,
-        NO_CHANGE,
-        3,
+        Setting { pages: 3, ..SOUND },
         7,
         &["refused: drive 0 has 4 pages, needs 5\n"],
     ),
-    (REF, (8, 3), PAGES, 7, &["refused: version 3 unknown\n"]),
     (
-        &["run", "--program", "bfs", "--source", "5", "D0"],
-        NO_CHANGE,
-        PAGES,
+        REF,
+        Setting {
+            change: (8, 3),
+            ..SOUND
+        },
+        7,
+        &["refused: version 3 unknown\n"],
+    ),
+    (
+        "run --program bfs --source 5 D0",
+        SOUND,
         8,
         &["refused: source 5 not below 5\n"],
     ),
     (
-        &["ref", "--program", "sssp", "--source", "6", "D0"],
-        NO_CHANGE,
-        PAGES,
+        "ref --program sssp --source 6 D0",
+        SOUND,
         8,
         &["refused: source 6 not below 5\n"],
     ),
     (
         RUN,
-        (4108, 5),
-        PAGES,
+        Setting {
+            change: (4108, 5),
+            ..SOUND
+        },
         8,
-        &[HEAD, FIRST, "refused: vertex 2 out entry 0 target 5\n"],
+        &[
+            LEVELS_HEAD,
+            LEVELS_FIRST,
+            "refused: vertex 2 out entry 0 target 5\n",
+        ],
     ),
     (
         REF,
-        (4108, 5),
-        PAGES,
+        Setting {
+            change: (4108, 5),
+            ..SOUND
+        },
         8,
-        &[HEAD, FIRST, "refused: vertex 2 out entry 0 target 5\n"],
+        &[
+            LEVELS_HEAD,
+            LEVELS_FIRST,
+            "refused: vertex 2 out entry 0 target 5\n",
+        ],
     ),
-    (CHECK, (8, 3), PAGES, 7, &["refused: version 3 unknown\n"]),
     (
         CHECK,
-        (4108, 5),
-        PAGES,
+        Setting {
+            change: (8, 3),
+            ..SOUND
+        },
+        7,
+        &["refused: version 3 unknown\n"],
+    ),
+    (
+        CHECK,
+        Setting {
+            change: (4108, 5),
+            ..SOUND
+        },
         8,
         &["refused: vertex 2 out entry 0 target 5\n"],
     ),
     (
         CHECK,
-        (8188, 0x0100_0000),
-        PAGES,
+        Setting {
+            change: (8188, 0x0100_0000),
+            ..SOUND
+        },
         9,
         &["refused: page 1 padding\n"],
     ),
     (
         CHECK,
-        (4108, 4),
-        PAGES,
+        Setting {
+            change: (4108, 4),
+            ..SOUND
+        },
         9,
         &["refused: vertex 3 not mirrored\n"],
     ),
@@ -461,98 +406,73 @@ const REFUSALS: &[(&[&str], (usize, u32), usize, u8, &[&str])] = &[
 
 #[test]
 fn refuses_by_its_first_cause(rt: HostRuntime) -> Result<(), Fail> {
-    for (words, change, pages, status, lines) in REFUSALS {
-        let left = run(
-            &rt,
-            rt.alloc(),
-            words,
-            Setting {
-                change: *change,
-                pages: *pages,
-                ..SOUND
-            },
-        )?;
-        assert_eq!(rt; left.status, *status);
-        assert!(rt; is_text(left.text.written(), lines));
-        let silent = run(
-            &rt,
-            rt.alloc(),
-            words,
-            Setting {
-                change: *change,
-                pages: *pages,
-                put_fails: Some(lines.len() as u32),
-                ..SOUND
-            },
-        )?;
-        assert_eq!(rt; silent.status, 4);
-        assert!(rt; is_text(silent.text.written(), &lines[..lines.len().max(1) - 1]));
+    for (line, setting, status, lines) in REFUSALS {
+        run(&rt, rt.alloc(), line, *setting, *status, lines)?;
+        let silent = Setting {
+            put_fails: lines.len() as u32,
+            ..*setting
+        };
+        let before = &lines[..lines.len().max(1) - 1];
+        run(&rt, rt.alloc(), line, silent, 4, before)?;
     }
     Ok(())
 }
 
+const FAILED: &str = "refused: drive 0 failed\n";
+
+/// The words, the read that fails, and the text.
+const FAILING: &[(&str, u32, Lines)] = &[
+    (RUN, 1, &[FAILED]),
+    (RUN, 2, &[FAILED]),
+    (RUN, 3, &[FAILED]),
+    (RUN, 4, &[LEVELS_HEAD, FAILED]),
+    (ONE_PAGE, 4, &[COMPONENTS_HEAD, FAILED]),
+    (ONE_PAGE, 5, &[COMPONENTS_HEAD, FAILED]),
+    (ONE_PAGE, 6, &[COMPONENTS_HEAD, COMPONENTS_FIRST, FAILED]),
+    (ONE_PAGE, 7, &[COMPONENTS_HEAD, COMPONENTS_FIRST, FAILED]),
+    (
+        ONE_PAGE,
+        8,
+        &[COMPONENTS_HEAD, COMPONENTS_FIRST, COMPONENTS_SECOND, FAILED],
+    ),
+    (
+        ONE_PAGE,
+        9,
+        &[COMPONENTS_HEAD, COMPONENTS_FIRST, COMPONENTS_SECOND, FAILED],
+    ),
+    (REF, 3, &[FAILED]),
+    (REF, 4, &[FAILED]),
+    (REF, 7, &[FAILED]),
+    (CHECK, 7, &[FAILED]),
+];
+
 #[test]
 fn each_call_of_the_drive_fails(rt: HostRuntime) -> Result<(), Fail> {
-    // the words, the read that fails, and how many lines were written before
-    let rows: &[(&[&str], u32, usize)] = &[
-        (RUN, 1, 0),
-        (RUN, 2, 0),
-        (RUN, 3, 0),
-        (RUN, 4, 1),
-        (RUN, 5, 2),
-        (RUN, 6, 2),
-        (RUN, 7, 3),
-        (REF, 3, 0),
-        (REF, 4, 0),
-        (REF, 7, 0),
-        (CHECK, 7, 0),
-    ];
-    for (words, call, before) in rows {
-        let left = run(
-            &rt,
-            rt.alloc(),
-            words,
-            Setting {
-                drive_fails: Some((DriveOp::Read, *call)),
-                ..SOUND
-            },
-        )?;
-        assert_eq!(rt; left.status, 5, "read {call}");
-        let Some(last) = left
-            .text
-            .written()
-            .strip_suffix(b"refused: drive 0 failed\n")
-        else {
-            panic!(rt; "read {call}");
-        };
-        assert!(rt; is_text(last, &LINES[..*before]), "read {call}");
-    }
-    let pages = Setting {
-        drive_fails: Some((DriveOp::Pages, 1)),
+    let alloc = rt.alloc();
+    let setting = Setting {
+        drive_fails: (0, DriveOp::Pages, 1),
         ..SOUND
     };
-    assert_eq!(rt; run(&rt, rt.alloc(), RUN, pages)?.status, 5);
+    run(&rt, alloc, RUN, setting, 5, &[FAILED])?;
+    for (line, read, lines) in FAILING {
+        let setting = Setting {
+            drive_fails: (0, DriveOp::Read, *read),
+            ..SOUND
+        };
+        run(&rt, alloc, line, setting, 5, lines)?;
+    }
     Ok(())
 }
 
 #[test]
 fn each_put_fails(rt: HostRuntime) -> Result<(), Fail> {
-    for words in [RUN, REF] {
-        for whole in 0..LINES.len() {
-            let left = run(
-                &rt,
-                rt.alloc(),
-                words,
-                Setting {
-                    put_fails: Some(whole as u32 + 1),
-                    ..SOUND
-                },
-            )?;
-            assert_eq!(rt; left.status, 4, "put {whole}");
-            assert!(rt;
-                is_text(left.text.written(), &LINES[..whole]),
-                "put {whole}"
-            );
+    for line in [RUN, REF] {
+        for whole in 0..LEVELS.len() {
+            let setting = Setting {
+                put_fails: whole as u32 + 1,
+                ..SOUND
+            };
+            run(&rt, rt.alloc(), line, setting, 4, &LEVELS[..whole])?;
         }
     }
     Ok(())

@@ -1,8 +1,9 @@
 use Rattle.std.proofs.Common.{refl, arith}
 use Rattle.fg_build.specs.Layouts.{plan_of}
 use Rattle.fg_build.proofs.BuiltLaws.{PlanFits}
+use Rattle.fg_engine.specs.Tallies.{tally_between}
 use Rattle.fg_outside.specs.contracts.room_drive.RoomDriveDrive.TheImpl.{held-value, room-value, faults-value}
-use Rattle.fg_top.specs.Calls.{output_between, tally_between}
+use Rattle.fg_top.specs.Calls.{output_between}
 use Rattle.fg_top.specs.Ends.{LeavesHeld}
 use Rattle.fg_report.specs.Refusals.{refusal_line}
 use Rattle.fg_text.specs.Generator.{generated_text}

@@ -1,17 +1,16 @@
 use Rattle.std.proofs.Common.{◌≡◌, IfSome, List, subst, rules}
 use Rattle.fg_build.specs.OpeningReads.{opening_reads}
+use Rattle.fg_engine.specs.Tallies.{tally_between}
 use Rattle.fg_outside.specs.Drives.{EachSame, LogsGrew, NoneRose, RoomyKept, all_told}
 use Rattle.fg_outside.proofs.DriveLemmas.{EachSame-more, RoomyKept-more, all_told-same}
 use Rattle.fg_report.specs.Refusals.{refusal_line}
-use Rattle.fg_top.specs.Calls.{output_between, tally_between}
+use Rattle.fg_top.specs.Calls.{output_between}
 use Rattle.fg_top.specs.Ends.{LeavesHeld}
-use Rattle.fg_top.specs.Outcome.{held_graph, run_on}
+use Rattle.fg_top.specs.Outcome.{run_on}
 use Rattle.fg_top.specs.Statuses.{CameToEnd}
-use Rattle.fg_top.specs.Tallies.{RoseWithin, begins_of}
 use Rattle.fg_top.proofs.BuildDrives.{held_status}
 use Rattle.fg_top.proofs.JobLemmas.{ends_after_head, ends_at_head, reads_all, reads_none, reads_of_all, tally_of}
 use Rattle.fg_top.proofs.OutcomeLemmas.{runs_so}
-use Rattle.fg_top.proofs.PagedLemmas.{if_any}
 use Rattle.fg_top.proofs.TallyLemmas.{went_given_up, went_of, went_refused}
 use Rattle.fg_top.proofs.run.run_job.Goals as goal
 
@@ -105,10 +104,7 @@ returns-in-Err-clause-tally_went g c =
 pub returns-in-Err-write_head_of-clause-tally_went : goal.returns-in-Err-write_head_of-clause-tally_went
 returns-in-Err-write_head_of-clause-tally_went g c =
     let now = c.args.tally.now in
-    let status = c.status.result in
-    if_any (all_told g.D.Drive.held c.args.drives.now.items)
-    (λ helds. RoseWithin (CameToEnd status) (begins_of c.args.wish (held_graph helds)) (tally_between g.T.Tally now now))
-    (λ helds. went_given_up (begins_of c.args.wish (held_graph helds)) status (g.T.Tally.runs now) (g.T.Tally.entries now) c.status.ensures)
+    went_given_up c.args.wish (all_told g.D.Drive.held c.args.drives.now.items) c.status.result (g.T.Tally.runs now) (g.T.Tally.entries now) c.status.ensures
 
 pub returns-clause-tally_went : goal.returns-clause-tally_went
 returns-clause-tally_went g c =
