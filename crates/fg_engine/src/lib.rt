@@ -21,5 +21,6 @@ mod starting;
 mod tests;
 mod weighing;
 
-pub use options::Options;
+pub use fg_iter::Bounds;
+pub use options::{BOUNDS, Options};
 pub use running::{RunDone, run_program};

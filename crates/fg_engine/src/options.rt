@@ -4,6 +4,14 @@ ghost use Rattle.std.specs.Prelude.{◌≡◌};
 ghost use Rattle.fg_engine.specs.Options.{shape_of};
 
 use fg_cache::Shape;
+use fg_iter::Bounds;
+
+/// How iterations are cut where nobody asks for another way. At most 2^24 messages of 8 bytes are on their way at once, 128 MiB and their
+/// share of batches, or those of one block where it has more.
+pub const BOUNDS: Bounds = Bounds {
+    wave: 16_777_216,
+    few: 4096,
+};
 
 /// How a run is to be done. Whatever the options are but for `max`, it comes to the same.
 #[derive(Clone, Copy, PartialEq, Eq, Debug)]
@@ -19,6 +27,8 @@ pub struct Options {
     pub depth: u32,
     /// A block has 2^`shift` vertices.
     pub shift: u32,
+    /// How iterations are cut. Whatever it is, a run comes to the same.
+    pub bounds: Bounds,
 }
 
 impl Options {

@@ -37,12 +37,6 @@ use std::mem;
 use std::sync::Wait;
 use std::thread::Threads;
 
-/// How iterations are cut.
-const BOUNDS: Bounds = Bounds {
-    wave: 16_777_216,
-    few: 4096,
-};
-
 /// The drives as they come back, the end of the run, and what was read: so many reads of so many pages, and how the cache was used, if it
 /// could be opened.
 #[derive(Drop)]
@@ -95,7 +89,7 @@ fn fit_out<P: Program, T: Tally>(
     ))
 }
 
-/// The run over the cache by workers with these passes.
+/// The run over the cache by workers with these passes, its iterations cut so.
 fn run_cached<
     P: Program + Sync,
     D: Drive + Send,
@@ -113,6 +107,7 @@ fn run_cached<
     outfit: Outfit,
     slots: Vec<HandSlot<T>>,
     max: u32,
+    bounds: Bounds,
     watch: &mut W,
     tally: &mut T,
 ) -> CrewDone
@@ -162,7 +157,7 @@ fn run_cached<
         slots,
         fault,
     } = run_by_crew(
-        rt, alloc, &runner, program, map, &weights, BOUNDS, states, slots, max, watch, &mut own,
+        rt, alloc, &runner, program, map, &weights, bounds, states, slots, max, watch, &mut own,
     );
     let passes = take_in(slots, room_for_passes, &mut own);
     tally.join(own.into_tally());
@@ -229,6 +224,7 @@ pub fn run_program<
         max,
         shift,
         workers,
+        bounds,
         ..
     } = options;
     let map = PartMap::new(opened.index.n(), shift, workers);
@@ -248,7 +244,7 @@ pub fn run_program<
         passes,
         shares,
     } = run_cached(
-        rt, alloc, &cache, passes, &opened, program, map, outfit, slots, max, watch, tally,
+        rt, alloc, &cache, passes, &opened, program, map, outfit, slots, max, bounds, watch, tally,
     );
     let Closed {
         drives,

@@ -4,7 +4,7 @@
 ghost use Rattle.std.specs.Prelude.{◌≡◌, ◌≤◌};
 ghost use Rattle.fg_engine.specs.Options.{AreOptions};
 
-use crate::{Options, RunDone, run_program};
+use crate::{BOUNDS, Options, RunDone, run_program};
 use byteorder::{ByteOrder, LittleEndian};
 use fg_base::limits::{MAX_DRIVES, MAX_IMAGE_PAGES, PAGE_BYTES};
 use fg_base::{BadEdge, Count, Dir};
@@ -184,6 +184,7 @@ fn options(workers: u32, sets: u32, ways: u32, shift: u32) -> Options
         ways,
         depth: 4,
         shift,
+        bounds: BOUNDS,
     }
 }
 
