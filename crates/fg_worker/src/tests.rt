@@ -189,6 +189,23 @@ fn mails_of(alloc: Global, done: &BlockResult) -> Result<Vec<(u32, u64)>, AllocE
     Ok(mails)
 }
 
+fn came_of(
+    alloc: Global,
+    done: &BlockResult,
+    tally: &Count,
+    reads: Vec<(u32, u32)>,
+) -> Result<Came, AllocError> {
+    Ok(Came {
+        mails: mails_of(alloc, done)?,
+        active: done.active,
+        sent: done.sent,
+        bad: done.bad,
+        runs: tally.runs(),
+        entries: tally.entries(),
+        reads,
+    })
+}
+
 /// Closes the cache; the reads of its drive.
 fn reads_of<R: Wait>(
     rt: &R,
@@ -243,15 +260,10 @@ fn run<R: Wait>(rt: &R, alloc: Global, setting: Setting, block: u32) -> Result<O
     hand.settle(&mut tally);
     let (pass, _none) = hand.into_parts();
     match answer {
-        Ok(result) => Ok(Some(Came {
-            mails: mails_of(alloc, &result)?,
-            active: result.active,
-            sent: result.sent,
-            bad: result.bad,
-            runs: tally.runs(),
-            entries: tally.entries(),
-            reads: reads_of(rt, alloc, cache, pass)?,
-        })),
+        Ok(result) => {
+            let reads = reads_of(rt, alloc, cache, pass)?;
+            Ok(Some(came_of(alloc, &result, &tally, reads)?))
+        }
         Err(WorkFault::Fault(_share)) => Ok(None),
         Err(WorkFault::Memory) => Err(Fail::new("want of memory")),
     }
