@@ -10,7 +10,7 @@ use fg_iter::Bounds;
 /// share of batches, or those of one block where it has more.
 pub const BOUNDS: Bounds = Bounds {
     wave: 16_777_216,
-    few: 4096,
+    few: 1024,
 };
 
 /// How a run is to be done. Whatever the options are but for `max`, it comes to the same.

@@ -5,7 +5,7 @@ ghost use Rattle.fg_engine.specs.Options.{AreOptions};
 ghost use Rattle.fg_top.specs.Engines.{FitsLimits};
 ghost use Rattle.fg_words.specs.Jobs.{JobFits, is_still};
 
-use fg_engine::Options;
+use fg_engine::{BOUNDS, Options};
 use fg_words::Job;
 
 /// By how many workers a run is done, over a cache of how many sets of how many pages, with how many loads waiting for a
@@ -66,6 +66,7 @@ impl Engine {
             ways: self.ways,
             depth: self.depth,
             shift: self.shift,
+            bounds: BOUNDS,
         }
     }
 }
