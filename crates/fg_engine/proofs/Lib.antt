@@ -1,6 +1,7 @@
 pub mod AskedLaws
 pub mod CountedLaws
 pub mod EndLaws
+pub mod HelpingLaws
 pub mod NamedLaws
 pub mod PopLaws
 pub mod ReadLaws

@@ -1,4 +1,6 @@
+pub mod Crew
 pub mod Hands
+pub mod Helping
 pub mod Naming
 pub mod NoneNeeded
 pub mod Options

@@ -2,12 +2,10 @@
 
 ghost use Rattle.std.specs.Prelude.{◌≡◌, ◌≤◌, [], All, length, vec_capacity};
 ghost use Rattle.fg_batch.specs.Outbox.{IsUnsent};
-ghost use Rattle.fg_books.specs.Shares.{BooksId};
 ghost use Rattle.fg_cache.specs.Closing.{all_hits};
 ghost use Rattle.fg_cache.specs.Pass.{IsPassOf};
 ghost use Rattle.fg_cache.specs.Site.{Site};
-ghost use Rattle.fg_cache.specs.Slips.{FaultOf};
-ghost use Rattle.fg_engine.specs.Hands.{AreHands, AreSettled, HavePasses, IsShareOf};
+ghost use Rattle.fg_engine.specs.Hands.{AreHands, AreSettled, HavePasses};
 ghost use Rattle.fg_engine.specs.Outfit.{IsOutboxOf};
 ghost use Rattle.fg_iter.specs.Crew.{hits_in};
 ghost use Rattle.fg_part.specs.declared.part_map.PartMap.{PartMap};
@@ -77,16 +75,4 @@ pub(crate) fn take_in<T: Tally>(
     }
     slots.destroy_empty();
     passes
-}
-
-/// The share of the fault, if there is one. The room for it is `shares`.
-pub(crate) fn shares_of(fault: Option<FaultShare>, shares: Vec<FaultShare>) -> Vec<FaultShare>
-    requires room { (shares.items ≡ []) × (1 ≤ vec_capacity shares) }
-    ensures { (books : BooksId) → IsShareOf books fault → All (λ (share : FaultOf). share.books ≡ books) result.items }
-{
-    let mut shares = shares;
-    if let Some(share) = fault {
-        shares.push_reserved(share);
-    }
-    shares
 }

@@ -8,8 +8,10 @@
 //! a job opens the drives and writes what comes of the run.
 #![tactic(auto)]
 
+mod beside;
 mod bounded;
 mod hands;
+mod helping;
 mod naming;
 mod options;
 mod outfit;
@@ -17,6 +19,7 @@ mod runner;
 mod running;
 mod settling;
 mod starting;
+mod stopping;
 #[cfg(test)]
 mod tests;
 mod weighing;

@@ -1,6 +1,6 @@
 //! How a run is to be done.
 
-ghost use Rattle.std.specs.Prelude.{◌≡◌};
+ghost use Rattle.std.specs.Prelude.{◌≡◌, ◌≤◌};
 ghost use Rattle.fg_engine.specs.Options.{shape_of};
 
 use fg_cache::Shape;
@@ -27,6 +27,8 @@ pub struct Options {
     pub depth: u32,
     /// A block has 2^`shift` vertices.
     pub shift: u32,
+    /// Whether a loop of its own serves each drive beside the workers.
+    pub helpers: bool,
     /// How iterations are cut. Whatever it is, a run comes to the same.
     pub bounds: Bounds,
 }
@@ -42,5 +44,12 @@ impl Options {
             depth: self.depth,
             passes: self.workers,
         }
+    }
+
+    /// How many helpers there are over so many drives.
+    pub(crate) fn helper_count(&self, drives: u32) -> u32
+        ensures { result ≤ drives }
+    {
+        if self.helpers { drives } else { 0 }
     }
 }

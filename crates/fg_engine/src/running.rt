@@ -18,17 +18,18 @@ ghost use Rattle.fg_model.specs.Run.{begun_of, run};
 ghost use Rattle.fg_model.specs.Watch.{Grew};
 ghost use Rattle.fg_outside.specs.Drives.{EachSame, RoomyKept, all_told};
 
+use crate::beside::run_beside;
 use crate::bounded::Bounded;
-use crate::hands::{HandSlot, hand_out, shares_of, take_in};
+use crate::hands::{HandSlot, hand_out, take_in};
+use crate::helping::shares_of;
 use crate::naming::cache_name;
 use crate::options::Options;
 use crate::outfit::Outfit;
-use crate::runner::Runner;
 use crate::settling::settle;
 use fg_base::{Memory, Tally};
 use fg_build::Opened;
 use fg_cache::{Cache, Closed, FaultShare, Pass, Usage};
-use fg_iter::{Bounds, CrewRun, run_by_crew};
+use fg_iter::{Bounds, CrewRun};
 use fg_model::{End, Program, RunFault, Watch};
 use fg_outside::Drive;
 use fg_part::PartMap;
@@ -48,7 +49,7 @@ pub struct RunDone<D: Drive> {
     pub usage: Option<Usage>,
 }
 
-/// What came of the workers' run: its answer, their passes, and the share of the fault that ended it, if one did.
+/// What came of the workers' run: its answer, their passes, and the shares of faults, of the workers' if one ended it, and of helpers.
 #[derive(Drop)]
 struct CrewDone {
     answer: Result<End, RunFault>,
@@ -77,14 +78,16 @@ fn fit_out<P: Program, T: Tally>(
     program: &P,
     opened: &Opened,
     map: PartMap,
+    helpers: u32,
 ) -> Result<(Outfit, Vec<HandSlot<T>>), Memory>
     requires fits { OpenedFits opened.now }
     requires map { map.n ≡ length opened.now.index.outs }
+    requires helpers { helpers ≤ opened.now.layout.drives }
     ensures outfit { IfOk result (λ both. IsOutfit (P.rules program.now) opened.now map both.0) }
     ensures room { IfOk result (λ both. (both.1.items ≡ []) × (map.parts ≤ vec_capacity both.1)) }
 {
     Ok((
-        Outfit::new(alloc, program, opened, map)?,
+        Outfit::new(alloc, program, opened, map, helpers)?,
         Vec::with_capacity(alloc, map.parts as usize)?,
     ))
 }
@@ -141,30 +144,27 @@ fn run_cached<
         states,
         weights,
         outboxes,
+        mut ends,
         passes: room_for_passes,
         shares,
     } = outfit;
     let none = tally.split();
     let mut own = Bounded::new(mem::replace(tally, none));
     let slots = hand_out(passes, outboxes, slots, &mut own);
-    let runner = Runner {
-        cache,
-        index: &opened.index,
-        layout: opened.layout,
-    };
     let CrewRun {
         answer,
         slots,
         fault,
-    } = run_by_crew(
-        rt, alloc, &runner, program, map, &weights, bounds, states, slots, max, watch, &mut own,
+    } = run_beside(
+        rt, alloc, cache, &mut ends, opened, program, map, &weights, bounds, states, slots, max,
+        watch, &mut own,
     );
     let passes = take_in(slots, room_for_passes, &mut own);
     tally.join(own.into_tally());
     CrewDone {
         answer,
         passes,
-        shares: shares_of(fault, shares),
+        shares: shares_of(fault, ends, shares),
     }
 }
 
@@ -228,7 +228,13 @@ pub fn run_program<
         ..
     } = options;
     let map = PartMap::new(opened.index.n(), shift, workers);
-    let Ok((outfit, slots)) = fit_out(alloc, program, &opened, map) else {
+    let Ok((outfit, slots)) = fit_out(
+        alloc,
+        program,
+        &opened,
+        map,
+        options.helper_count(opened.layout.drives),
+    ) else {
         return unbegun(drives);
     };
     let name = cache_name(&drives, &opened, program, max);

@@ -184,6 +184,7 @@ fn options(workers: u32, sets: u32, ways: u32, shift: u32) -> Options
         ways,
         depth: 4,
         shift,
+        helpers: false,
         bounds: BOUNDS,
     }
 }
