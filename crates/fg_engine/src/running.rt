@@ -220,21 +220,10 @@ pub fn run_program<
     ensures usage { OnOk result.answer (Has (λ usage. OfRun (all_told D.held drives.items) (P.rules program.now) opened options.max
         (λ run. visits_of opened options (P.rules program.now) run ≤ usage.hits)) result.usage) }
 {
-    let Options {
-        max,
-        shift,
-        workers,
-        bounds,
-        ..
-    } = options;
-    let map = PartMap::new(opened.index.n(), shift, workers);
-    let Ok((outfit, slots)) = fit_out(
-        alloc,
-        program,
-        &opened,
-        map,
-        options.helper_count(opened.layout.drives),
-    ) else {
+    let Options { max, bounds, .. } = options;
+    let map = PartMap::new(opened.index.n(), options.shift, options.workers);
+    let helpers = options.helper_count(opened.layout.drives);
+    let Ok((outfit, slots)) = fit_out(alloc, program, &opened, map, helpers) else {
         return unbegun(drives);
     };
     let name = cache_name(&drives, &opened, program, max);
