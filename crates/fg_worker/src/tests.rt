@@ -1,6 +1,6 @@
 //! Blocks of a small graph, run over caches of few frames and of many.
 
-ghost use Rattle.std.specs.Prelude.{◌≡◌, ℕ, ◌<◌, ◌^◌, None, IfOk, false, length, sum};
+ghost use Rattle.std.specs.Prelude.{◌≡◌, ℕ, ◌<◌, None, IfOk, false, length, sum};
 ghost use Rattle.std.specs.List.{Contains, range_with_len};
 ghost use Rattle.fg_cache.specs.Pass.{IsPassOf};
 ghost use Rattle.fg_cache.specs.Site.{asked_pages};
@@ -23,7 +23,7 @@ use std::marker::Brand;
 use std::sync::Wait;
 use std::test::Fail;
 
-/// The edges of the graph, of five vertices, but for those of vertex 4.
+/// The edges of the graph, of five vertices, but for those that lead from vertex 4.
 const EDGES: [(u32, u32); 5] = [(0, 1), (0, 2), (1, 3), (2, 3), (3, 4)];
 
 /// The targets of the out-lists of the vertices below 4, one behind the other, and of the in-lists.
@@ -31,7 +31,7 @@ const OUTS: [u8; 5] = [1, 2, 3, 3, 4];
 
 const INS: [u8; 5] = [0, 0, 1, 2, 3];
 
-/// So many edges lead from vertex 4 to vertex 0, and aren't on its in-list: 36 pages of them.
+/// So many edges lead from vertex 4 to vertex 0, which has none of them on its in-list. They fill 36 pages.
 const LONG: u32 = 36_864;
 
 /// The index: the out-degrees 2, 1, 1, 1 and a long one, which stands behind them, and the in-degrees 0, 1, 1, 2 and 1.
