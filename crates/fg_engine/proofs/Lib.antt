@@ -6,7 +6,6 @@ pub mod NamedLaws
 pub mod PopLaws
 pub mod ReadLaws
 pub mod RunnerLaws
-pub mod SendLaws
 pub mod ShareLaws
 pub mod StartLaws
 pub mod StockLaws

@@ -195,14 +195,17 @@ fn runs_as_it_should_in_many_ways(rt: HostRuntime) -> Result<(), Fail> {
     let alloc = rt.alloc();
     let edges = edges(alloc, DIAMOND)?;
     for count in 1..5 {
-        for workers in [1, 4] {
+        for (workers, helpers) in [(1, false), (4, false), (1, true), (4, true)] {
             for (sets, ways, shift) in [(1, 1, 0), (1, 2, 1), (8, 2, 16)] {
                 let ran = run(
                     &rt,
                     alloc,
                     built(alloc, &edges, count, 1, None)?,
                     &Bfs { source: 0 },
-                    options(workers, sets, ways, shift),
+                    Options {
+                        helpers,
+                        ..options(workers, sets, ways, shift)
+                    },
                     Vec::new(alloc),
                 )?;
                 values(&rt, &ran, 4, &[0, 1, 1, 2, 3]);
@@ -316,6 +319,28 @@ fn ends_where_a_drive_fails(rt: HostRuntime) -> Result<(), Fail> {
         )?;
         assert!(rt; matches!(&ran.answer, Err(fault) if *fault == RunFault::Drive(1)));
         assert_eq!(rt; ran.watch.notes().len(), 0);
+        assert!(rt; ran.drives.iter().map(|drive| drive.faults()).eq([0, 1]));
+    }
+    Ok(())
+}
+
+#[test]
+fn ends_where_a_helper_finds_a_drive_failing(rt: HostRuntime) -> Result<(), Fail> {
+    let alloc = rt.alloc();
+    let edges = edges(alloc, DIAMOND)?;
+    for workers in [1, 3] {
+        let ran = run(
+            &rt,
+            alloc,
+            built(alloc, &edges, 2, 1, Some(3))?,
+            &Bfs { source: 0 },
+            Options {
+                helpers: true,
+                ..options(workers, 1, 1, 0)
+            },
+            Vec::new(alloc),
+        )?;
+        assert!(rt; matches!(&ran.answer, Err(fault) if *fault == RunFault::Drive(1)));
         assert!(rt; ran.drives.iter().map(|drive| drive.faults()).eq([0, 1]));
     }
     Ok(())

@@ -9,7 +9,7 @@ use fg_engine::{BOUNDS, Options};
 use fg_words::Job;
 
 /// By how many workers a run is done, over a cache of how many sets of how many pages, with how many loads waiting for a
-/// drive, and in blocks of 2^`shift` vertices. What the run comes to is the same by any.
+/// drive, in blocks of 2^`shift` vertices, and whether each drive is served beside them. What the run comes to is the same by any.
 #[derive(Clone, Copy, PartialEq, Eq, Debug)]
 pub struct Engine {
     pub workers: u32,
@@ -17,6 +17,7 @@ pub struct Engine {
     pub ways: u32,
     pub depth: u32,
     pub shift: u32,
+    pub helpers: bool,
 }
 
 impl Engine {
@@ -33,6 +34,7 @@ impl Engine {
                 ways,
                 depth,
                 shift,
+                helpers,
                 ..
             }
             | Job::Large {
@@ -41,6 +43,7 @@ impl Engine {
                 ways,
                 depth,
                 shift,
+                helpers,
                 ..
             } => Some(Engine {
                 workers,
@@ -48,6 +51,7 @@ impl Engine {
                 ways,
                 depth,
                 shift,
+                helpers,
             }),
             Job::Build { .. } | Job::Ref { .. } | Job::Check | Job::Gen { .. } => None,
         }
@@ -66,6 +70,7 @@ impl Engine {
             ways: self.ways,
             depth: self.depth,
             shift: self.shift,
+            helpers: self.helpers,
             bounds: BOUNDS,
         }
     }

@@ -1,7 +1,7 @@
 use denote.Exit.{no}
 use denote.Param.Send.{arg_send, param_send}
 use Rattle.fg_engine.proofs.bounded.Bounded.TheSendSync.{the_send as bounded_send}
-use Rattle.fg_engine.proofs.SendLaws.{hand_send}
+use Rattle.fg_worker.proofs.SendLaws.{hand_send}
 use Rattle.fg_engine.proofs.beside.fn.run_beside.beside.Goals as goal
 
 pub run_by_crew-requires-send-K : goal.run_by_crew-requires-send-K
