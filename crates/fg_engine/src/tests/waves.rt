@@ -1,12 +1,9 @@
 //! Runs whose iterations are cut into waves of few messages, beside the plain run of the same image's graph in memory.
 
-ghost use Rattle.std.specs.Prelude.{◌≤◌};
-ghost use Rattle.fg_base.specs.declared.limits.TheConstants.{MAX_SHIFT};
-
 use super::{DIAMOND, Ran, built, edges, options, run, star};
 use crate::{Bounds, Options};
 use fg_base::Count;
-use fg_base::limits::MAX_DRIVES;
+use fg_base::limits::{MAX_DRIVES, MAX_SHIFT, MAX_WORKERS};
 use fg_build::{open, read_all};
 use fg_comps::{Core, Wcc};
 use fg_image::cut_graph;
@@ -21,11 +18,43 @@ use std::sync::Wait;
 use std::test::Fail;
 use std::thread::Threads;
 
-/// More iterations than any of these runs makes.
-const MAX: u32 = 1000;
-
 /// What a rank is cut at.
 const CUT: u64 = 1048;
+
+/// A run in waves of so many messages, by so many workers.
+type Wave = (u64, u32);
+
+/// How runs are made: with at most so many iterations, with blocks of 2^`shift` vertices, and in each of these waves.
+#[derive(Clone, Copy)]
+struct Ways {
+    max: u32,
+    shift: u32,
+    waves: &'static [Wave],
+}
+
+/// Every wave by every number of workers, a vertex a block, to the end.
+const ALL: Ways = Ways {
+    max: 1000,
+    shift: 0,
+    waves: &[
+        (1, 1),
+        (1, 2),
+        (1, 8),
+        (7, 1),
+        (7, 2),
+        (7, 8),
+        (100, 1),
+        (100, 2),
+        (100, 8),
+    ],
+};
+
+/// The same in three parts, each with every wave and with every number of workers.
+const PARTS: [&[Wave]; 3] = [
+    &[(1, 1), (7, 2), (100, 8)],
+    &[(1, 2), (7, 8), (100, 1)],
+    &[(1, 8), (7, 1), (100, 2)],
+];
 
 /// What a plain run came to.
 #[derive(Drop)]
@@ -83,33 +112,34 @@ fn is_plain(ran: &Ran, plain: &Plain) -> bool {
         && ran.tally.entries() == plain.tally.entries()
 }
 
-/// Runs the program on these drives' image, with blocks of 2^`shift` vertices, in waves of 1, of 7 and of 100 messages and by 1, 2 and 8
-/// workers, and looks whether each run comes to what the plain run does.
+/// Runs the program on these drives' image in each of the ways, and looks whether each run comes to what the plain run does.
 fn runs_as_plain<R: Abort + Threads + Wait + Sync, P: Program + Sync>(
     rt: &R,
     alloc: Global,
     mut drives: Vec<MemDrive>,
     program: &P,
-    max: u32,
-    shift: u32,
-) -> Result<Plain, Fail>
-    requires { shift ≤ MAX_SHIFT }
-{
+    ways: Ways,
+) -> Result<Plain, Fail> {
+    let Ways { max, shift, waves } = ways;
     let plain = plain_of(alloc, &mut drives, program, max)?;
-    for workers in [1, 2, 8] {
-        for wave in [1, 7, 100] {
-            let cut = Options {
-                max,
-                bounds: Bounds { wave, few: 0 },
-                ..options(workers, 2, 2, shift)
-            };
-            let ran = run(rt, alloc, drives, program, cut, Vec::new(alloc))?;
-            assert!(rt;
-                is_plain(&ran, &plain),
-                "{workers} workers, waves of {wave}"
-            );
-            drives = ran.drives;
+    for (wave, workers) in waves {
+        if *workers == 0 || *workers > MAX_WORKERS || shift > MAX_SHIFT {
+            return Err(Fail::new("there is no such way"));
         }
+        let cut = Options {
+            max,
+            bounds: Bounds {
+                wave: *wave,
+                few: 0,
+            },
+            ..options(*workers, 2, 2, shift)
+        };
+        let ran = run(rt, alloc, drives, program, cut, Vec::new(alloc))?;
+        assert!(rt;
+            is_plain(&ran, &plain),
+            "{workers} workers, waves of {wave}"
+        );
+        drives = ran.drives;
     }
     Ok(plain)
 }
@@ -125,19 +155,19 @@ fn small_graphs_run_as_plain(rt: HostRuntime) -> Result<(), Fail> {
     let alloc = rt.alloc();
     let diamond = edges(alloc, DIAMOND)?;
     let three = built(alloc, &diamond, 3, 2, None)?;
-    let plain = runs_as_plain(&rt, alloc, three, &Bfs { source: 0 }, MAX, 0)?;
+    let plain = runs_as_plain(&rt, alloc, three, &Bfs { source: 0 }, ALL)?;
     assert!(rt; are_first(&plain.end, &[0, 1, 1, 2, 3]));
     for count in [1, 3] {
         let drives = built(alloc, &diamond, count, 2, None)?;
-        let plain = runs_as_plain(&rt, alloc, drives, &Wcc, MAX, 0)?;
+        let plain = runs_as_plain(&rt, alloc, drives, &Wcc, ALL)?;
         assert!(rt; are_first(&plain.end, &[0; 5]));
     }
     let triangle = built(alloc, &edges(alloc, "0 1\n1 2\n2 0\n2 3\n")?, 1, 1, None)?;
-    let plain = runs_as_plain(&rt, alloc, triangle, &Core, MAX, 0)?;
+    let plain = runs_as_plain(&rt, alloc, triangle, &Core, ALL)?;
     let numbers = plain.end.states.as_slice().iter().map(|state| state.c);
     assert!(rt; numbers.eq([2, 2, 2, 1]));
     let pair = built(alloc, &edges(alloc, "0 1\n1 0\n")?, 1, 1, None)?;
-    let plain = runs_as_plain(&rt, alloc, pair, &Rank { cut: CUT }, 2, 0)?;
+    let plain = runs_as_plain(&rt, alloc, pair, &Rank { cut: CUT }, Ways { max: 2, ..ALL })?;
     assert_eq!(rt; (plain.end.settled, plain.end.iterations), (false, 2));
     Ok(())
 }
@@ -148,26 +178,39 @@ fn stars_run_as_plain(rt: HostRuntime) -> Result<(), Fail> {
     let alloc = rt.alloc();
     for targets in [1024, 1025] {
         let drives = built(alloc, &star(alloc, targets)?, 1, 1, None)?;
-        let plain = runs_as_plain(&rt, alloc, drives, &Bfs { source: 0 }, MAX, 4)?;
+        let plain = runs_as_plain(
+            &rt,
+            alloc,
+            drives,
+            &Bfs { source: 0 },
+            Ways { shift: 4, ..ALL },
+        )?;
         assert_eq!(rt; plain.tally.entries(), u64::from(targets));
         assert_eq!(rt; (plain.end.settled, plain.end.iterations), (true, 2));
     }
     Ok(())
 }
 
-/// The same for one of the five programs.
+/// The same for one of the five programs; ranks for five iterations.
 fn one_runs_as_plain<R: Abort + Threads + Wait + Sync>(
     rt: &R,
     alloc: Global,
     drives: Vec<MemDrive>,
     which: u64,
+    ways: Ways,
 ) -> Result<Plain, Fail> {
     match which % 5 {
-        0 => runs_as_plain(rt, alloc, drives, &Bfs { source: 0 }, MAX, 3),
-        1 => runs_as_plain(rt, alloc, drives, &Sssp { source: 0 }, MAX, 3),
-        2 => runs_as_plain(rt, alloc, drives, &Wcc, MAX, 3),
-        3 => runs_as_plain(rt, alloc, drives, &Core, MAX, 3),
-        _ => runs_as_plain(rt, alloc, drives, &Rank { cut: CUT }, 5, 3),
+        0 => runs_as_plain(rt, alloc, drives, &Bfs { source: 0 }, ways),
+        1 => runs_as_plain(rt, alloc, drives, &Sssp { source: 0 }, ways),
+        2 => runs_as_plain(rt, alloc, drives, &Wcc, ways),
+        3 => runs_as_plain(rt, alloc, drives, &Core, ways),
+        _ => runs_as_plain(
+            rt,
+            alloc,
+            drives,
+            &Rank { cut: CUT },
+            Ways { max: 5, ..ways },
+        ),
     }
 }
 
@@ -177,7 +220,12 @@ fn random_graphs_run_as_plain(rt: HostRuntime) -> Result<(), Fail> {
     for start in 1..101 {
         let edges = generate_edges(alloc, start, 60, 300, start % 2 == 0)?;
         let drives = built(alloc, &edges, start as u32 % 3 + 1, 1, None)?;
-        let plain = one_runs_as_plain(&rt, alloc, drives, start)?;
+        let ways = Ways {
+            shift: 3,
+            waves: PARTS[start as usize / 5 % 3],
+            ..ALL
+        };
+        let plain = one_runs_as_plain(&rt, alloc, drives, start, ways)?;
         assert!(rt; 1 < plain.end.iterations);
     }
     Ok(())
