@@ -1,6 +1,7 @@
 -- What a worker has in its slot, before a wave and after it.
-use Rattle.std.specs.Prelude.{◌≡◌, ℕ, ◌<◌, Option, None, Some, Ok, List, [], ◌∷◌, IfErr, OnOk, length, slice_index_or}
+use Rattle.std.specs.Prelude.{◌≡◌, ℕ, ◌<◌, Option, None, Some, Result, Ok, Err, List, [], ◌∷◌, IfErr, OnOk, length, slice_index_or}
 use Rattle.fg_task.specs.declared.block_result.BlockResult.{BlockResult}
+use Rattle.fg_task.specs.declared.block_result.WorkFault.{WorkFault}
 use Rattle.fg_crew.specs.declared.slot.Desk.{Desk}
 use Rattle.fg_crew.specs.declared.slot.Slot.{Slot}
 use Rattle.fg_crew.specs.declared.working.Wave.{Wave}
@@ -81,3 +82,11 @@ seat_at slot = desk_seat slot.desk
 
 abbrev pub results_at : {K F : Type 0} → Slot K F → List BlockResult
 results_at slot = desk_results slot.desk
+
+-- the worse of two ends: a fault of what runs blocks before want of memory, and that before a good end; of two alike the first
+abbrev pub worse_of : {F : Type 0} → Result (Unit {0}) (WorkFault F) → Result (Unit {0}) (WorkFault F) → Result (Unit {0}) (WorkFault F)
+worse_of (Ok done) next = next
+worse_of (Err (WorkFault.Fault fault)) next = Err (WorkFault.Fault fault)
+worse_of (Err WorkFault.Memory) (Ok done) = Err WorkFault.Memory
+worse_of (Err WorkFault.Memory) (Err WorkFault.Memory) = Err WorkFault.Memory
+worse_of (Err WorkFault.Memory) (Err (WorkFault.Fault fault)) = Err (WorkFault.Fault fault)

@@ -4,14 +4,14 @@ ghost use Rattle.std.specs.Prelude.{◌≡◌, ◌+◌, ◌<◌, ◌≤◌, ◌+
 ghost use Rattle.std.specs.List.{flat_map};
 ghost use Rattle.fg_task.specs.Blocks.{HasCause};
 ghost use Rattle.fg_task.specs.declared.block_result.WorkFault.{WorkFault};
-ghost use Rattle.fg_crew.specs.Slots.{FaultHasCause, HasEndedWell, results_at, seat_at};
+ghost use Rattle.fg_crew.specs.Slots.{FaultHasCause, HasEndedWell, results_at, seat_at, worse_of};
 
 use crate::slot::{Desk, Slot};
 use fg_steal::Seat;
 use fg_task::{BlockResult, RunsBlock, WorkFault};
 
-/// Takes the seats and the results of all slots in order. Where workers failed, the fault of the first of them is answered, and the seats
-/// are there all the same.
+/// Takes the seats and the results of all slots in order. Where workers failed, the worst end is answered, the first of those alike, and the
+/// seats are there all the same.
 pub(crate) fn take_back<K, B: RunsBlock<K>>(
     runner: &B,
     slots: &mut [Slot<K, B::Fault>],
@@ -28,9 +28,26 @@ pub(crate) fn take_back<K, B: RunsBlock<K>>(
 {
     let mut taken = Ok(());
     for k in 0..slots.len() {
-        taken = taken.and(take_one(runner, &mut slots[k], seats, results));
+        taken = worse(taken, take_one(runner, &mut slots[k], seats, results));
     }
     taken
+}
+
+/// The worse of two ends: a fault of what runs blocks before want of memory, and that before a good end; of two alike the first.
+fn worse<F: Drop>(
+    first: Result<(), WorkFault<F>>,
+    next: Result<(), WorkFault<F>>,
+) -> Result<(), WorkFault<F>>
+    ensures { result ≡ worse_of first next }
+{
+    match first {
+        Ok(()) => next,
+        Err(WorkFault::Fault(fault)) => Err(WorkFault::Fault(fault)),
+        Err(WorkFault::Memory) => match next {
+            Err(WorkFault::Fault(fault)) => Err(WorkFault::Fault(fault)),
+            Ok(()) | Err(WorkFault::Memory) => Err(WorkFault::Memory),
+        },
+    }
 }
 
 /// Takes the seat and the results of a slot.

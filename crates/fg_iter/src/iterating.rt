@@ -176,7 +176,7 @@ fn end<P: Program + Sync, K, F: Drop, R: Threads + Sync>(
     if ended.is_ok() {
         take_over(rt, phase, threads, crew);
     }
-    crew.inboxes.empty(rt, threads);
+    crew.inboxes.empty(rt, 1);
     ended
 }
 

@@ -31,8 +31,8 @@ loop-k-preserved g c =
     let within : k < length first = omega (arith, below, inv.count) in
     let so_far = c.loop-k.taken in
     let here = c.take_one.result in
-    let all = c.and-taken.result in
-    let is = c.and-taken.ensures in
+    let all = c.worse-taken.result in
+    let is = c.worse-taken.ensures in
     record {
       the_end = inv.the_end;
       count = length-set slots k next ∙ inv.count;
