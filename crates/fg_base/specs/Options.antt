@@ -1,7 +1,7 @@
 -- How the options of the command line are written.
 use Rattle.std.specs.Prelude.{ℕ, List, codes}
 use Rattle.fg_base.specs.declared.refusal.Opt.{Opt}
-use Rattle.fg_base.specs.declared.refusal.Opt.TheVariants.{Program, Source, Max, Cut, Each, Quiet, Workers, Sets, Ways, Depth, Shift, Helpers, Unit as UnitPages, Number, Undirected, Input, Start, Nodes, Edges, Drives, Drive}
+use Rattle.fg_base.specs.declared.refusal.Opt.TheVariants.{Program, Source, Max, Cut, Each, Quiet, Workers, Sets, Ways, Depth, Shift, Helpers, Stats, Unit as UnitPages, Number, Undirected, Input, Start, Nodes, Edges, Drives, Drive}
 
 -- an option's name as it is written
 abbrev pub option_name : Opt → List ℕ
@@ -17,6 +17,7 @@ option_name Ways = codes "ways"
 option_name Depth = codes "depth"
 option_name Shift = codes "shift"
 option_name Helpers = codes "helpers"
+option_name Stats = codes "stats"
 option_name UnitPages = codes "unit"
 option_name Number = codes "number"
 option_name Undirected = codes "undirected"

@@ -135,7 +135,7 @@ const REFUSALS: [(Refusal, &str); 22] = [
 ];
 
 /// Each option, and its line where its value isn't in range.
-const OPTIONS: [(Opt, &str); 21] = [
+const OPTIONS: [(Opt, &str); 22] = [
     (Opt::Program, "refused: words range program\n"),
     (Opt::Source, "refused: words range source\n"),
     (Opt::Max, "refused: words range max\n"),
@@ -148,6 +148,7 @@ const OPTIONS: [(Opt, &str); 21] = [
     (Opt::Depth, "refused: words range depth\n"),
     (Opt::Shift, "refused: words range shift\n"),
     (Opt::Helpers, "refused: words range helpers\n"),
+    (Opt::Stats, "refused: words range stats\n"),
     (Opt::Unit, "refused: words range unit\n"),
     (Opt::Number, "refused: words range number\n"),
     (Opt::Undirected, "refused: words range undirected\n"),

@@ -7,7 +7,7 @@ use Rattle.std.specs.List.{list_all}
 use Rattle.std.specs.Str.Parse.{digits_value}
 use Rattle.std.specs.Char.{is_ascii_digit}
 use Rattle.fg_base.specs.declared.refusal.Opt.{Opt}
-use Rattle.fg_base.specs.declared.refusal.Opt.TheVariants.{Program, Source, Max, Cut, Each, Quiet, Workers, Sets, Ways, Depth, Shift, Helpers, Unit as UnitPages, Number, Undirected, Input, Start, Nodes, Edges, Drives, Drive}
+use Rattle.fg_base.specs.declared.refusal.Opt.TheVariants.{Program, Source, Max, Cut, Each, Quiet, Workers, Sets, Ways, Depth, Shift, Helpers, Stats, Unit as UnitPages, Number, Undirected, Input, Start, Nodes, Edges, Drives, Drive}
 use Rattle.fg_base.specs.declared.refusal.WordFault.{WordFault}
 use Rattle.fg_base.specs.declared.refusal.WordFault.TheVariants.{Extra, Missing, Range}
 use Rattle.clap.specs.Walk.{Row}
@@ -143,6 +143,7 @@ is_given line Ways = is_there line.ways
 is_given line Depth = is_there line.depth
 is_given line Shift = is_there line.shift
 is_given line Helpers = line.helpers
+is_given line Stats = false
 is_given line UnitPages = is_there line.unit
 is_given line Number = is_there line.number
 is_given line Undirected = line.undirected

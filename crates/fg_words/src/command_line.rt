@@ -163,6 +163,7 @@ impl CommandLine {
             Opt::Depth => self.depth.is_there(),
             Opt::Shift => self.shift.is_there(),
             Opt::Helpers => self.helpers,
+            Opt::Stats => false,
             Opt::Unit => self.unit.is_there(),
             Opt::Number => self.number.is_there(),
             Opt::Undirected => self.undirected,
