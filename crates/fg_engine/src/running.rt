@@ -8,13 +8,11 @@ ghost use Rattle.fg_cache.specs.Slips.{FaultOf};
 ghost use Rattle.fg_engine.specs.Options.{AreOptions};
 ghost use Rattle.fg_engine.specs.Outfit.{IsOutfit};
 ghost use Rattle.fg_engine.specs.Runner.{AllowsCached, FoundOften, IsCacheOf, lists_in, run_over};
-ghost use Rattle.fg_engine.specs.Tallies.{RoseByRun, RoseWithin, tally_between};
-ghost use Rattle.fg_engine.specs.Told.{HasCountedReads, OfRun, ReadsAsked, TellsWhose, WhereNoneFailed, visits_of};
-ghost use Rattle.fg_crew.specs.Slots.{Has};
+ghost use Rattle.fg_engine.specs.Tallies.{tally_between};
+ghost use Rattle.fg_engine.specs.Told.{FoundVisits, HasCountedReads, OfRun, ReadsOfRun, TallyRose, TallyWent, TellsWhose, WhereNoneFailed};
 ghost use Rattle.fg_iter.specs.Running.{AllowsRun, CrewWent, RunShown, RunTallied};
-ghost use Rattle.fg_model.specs.Engine.{IsWhole, ShownAs, TallyRoseWith, TellsEnd, TellsFaults};
+ghost use Rattle.fg_model.specs.Engine.{TallyRoseWith, TellsEnd, TellsFaults, WatchShown};
 ghost use Rattle.fg_model.specs.Iteration.{AreStates};
-ghost use Rattle.fg_model.specs.Run.{begun_of, run};
 ghost use Rattle.fg_model.specs.Watch.{Grew};
 ghost use Rattle.fg_outside.specs.Drives.{EachSame, RoomyKept, all_told};
 
@@ -198,8 +196,7 @@ pub fn run_program<
     // of the drives
     ensures held { EachSame D.held drives.items result.drives.items }
     ensures sure { RoomyKept D.room D.faults drives.items result.drives.items }
-    ensures reads { OfRun (all_told D.held drives.items) (P.rules program.now) opened options.max
-        (λ run. ReadsAsked D.log (P.rules program.now) opened run drives.items result.drives.items) }
+    ensures reads { ReadsOfRun D.Drive (P.rules program.now) opened options.max drives.items result.drives.items }
     ensures counts { WhereNoneFailed result.answer
         (HasCountedReads D.log result.reads result.pages drives.items result.drives.items) }
     // of the watch
@@ -210,15 +207,15 @@ pub fn run_program<
     ensures faults { TellsWhose D.faults result.answer drives.items result.drives.items (W.faults watch.old) (W.faults watch.new) }
     ensures answer { OfRun (all_told D.held drives.items) (P.rules program.now) opened options.max (TellsEnd result.answer) }
     ensures shown { OfRun (all_told D.held drives.items) (P.rules program.now) opened options.max
-        (λ run. ShownAs result.answer (W.told watch.old) run.finished (W.notes watch.old) (W.notes watch.new)) }
+        (λ run. WatchShown result.answer W.told W.notes watch.old watch.new run.finished) }
     ensures tally { OfRun (all_told D.held drives.items) (P.rules program.now) opened options.max
-        (λ run. RoseWithin (IsWhole result.answer) (begun_of run) (tally_between T.Tally tally.old tally.new)) }
+        (TallyWent result.answer (tally_between T.Tally tally.old tally.new)) }
     // of a run with an end
     ensures few { IfOk result.answer (λ end. length end.states ≤ 2 ^ 24) }
     ensures ok_tally { OnOk result.answer (OfRun (all_told D.held drives.items) (P.rules program.now) opened options.max
-        (λ run. RoseByRun run (tally_between T.Tally tally.old tally.new))) }
-    ensures usage { OnOk result.answer (Has (λ usage. OfRun (all_told D.held drives.items) (P.rules program.now) opened options.max
-        (λ run. visits_of opened options (P.rules program.now) run ≤ usage.hits)) result.usage) }
+        (TallyRose (tally_between T.Tally tally.old tally.new))) }
+    ensures usage { OnOk result.answer
+        (FoundVisits (all_told D.held drives.items) (P.rules program.now) opened options result.usage) }
 {
     let Options { max, bounds, .. } = options;
     let map = PartMap::new(opened.index.n(), options.shift, options.workers);

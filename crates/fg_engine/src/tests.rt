@@ -305,42 +305,24 @@ fn ends_at_the_first_bad_edge(rt: HostRuntime) -> Result<(), Fail> {
 }
 
 #[test]
-fn ends_where_a_drive_fails(rt: HostRuntime) -> Result<(), Fail> {
+fn ends_where_a_worker_or_a_helper_finds_a_drive_failing(rt: HostRuntime) -> Result<(), Fail> {
     let alloc = rt.alloc();
     let edges = edges(alloc, DIAMOND)?;
-    for workers in [1, 3] {
-        let ran = run(
-            &rt,
-            alloc,
-            built(alloc, &edges, 2, 1, Some(3))?,
-            &Bfs { source: 0 },
-            options(workers, 1, 1, 0),
-            Vec::new(alloc),
-        )?;
-        assert!(rt; matches!(&ran.answer, Err(fault) if *fault == RunFault::Drive(1)));
-        assert_eq!(rt; ran.watch.notes().len(), 0);
-        assert!(rt; ran.drives.iter().map(|drive| drive.faults()).eq([0, 1]));
-    }
-    Ok(())
-}
-
-#[test]
-fn ends_where_a_helper_finds_a_drive_failing(rt: HostRuntime) -> Result<(), Fail> {
-    let alloc = rt.alloc();
-    let edges = edges(alloc, DIAMOND)?;
-    for workers in [1, 3] {
+    for (workers, helpers) in [(1, false), (3, false), (1, true), (3, true)] {
         let ran = run(
             &rt,
             alloc,
             built(alloc, &edges, 2, 1, Some(3))?,
             &Bfs { source: 0 },
             Options {
-                helpers: true,
+                helpers,
                 ..options(workers, 1, 1, 0)
             },
             Vec::new(alloc),
         )?;
         assert!(rt; matches!(&ran.answer, Err(fault) if *fault == RunFault::Drive(1)));
+        // helpers beside it may bring the first pages before the failing one is read
+        assert!(rt; helpers || ran.watch.notes().len() == 0);
         assert!(rt; ran.drives.iter().map(|drive| drive.faults()).eq([0, 1]));
     }
     Ok(())
