@@ -40,8 +40,8 @@ TOLD = (
 SAYS_ALL = '== fg_base\nproved\n== summary\nfg_base: ok\n'
 SAYS_RUN = 'rt: chose --jobs 1 for fg_run\n'
 TOLD_BESIDE = (
-    'fg: the program is proved and built once, from 2 crates: usually 3 to 7 min from nothing\n'
-    'fg: 1 of 2 crates are done, fg_base last; TIME so far\n'
+    'fg: the program is proved and built once, from 2 crates, 3 side by side: usually 3 to 7 min from nothing\n'
+    'fg: crate 1 of 2 is done, fg_base; TIME so far\n'
     'fg: crate 2 of 2, fg_run, usually 1 to 3 min; TIME so far\n'
     'fg: TIME in all\n')
 TOLD_LATE = (
