@@ -162,6 +162,15 @@ def chosen_call(processors, free):
         return place.call(FG_JOBS='')[3]
 
 
+SENT = (signal.SIGHUP, signal.SIGINT, signal.SIGTERM)
+
+
+def heed_signals():
+    """Signals that whoever runs these rows ignores, as behind `nohup`, would be ignored below them too."""
+    for sent in SENT:
+        signal.signal(sent, signal.SIG_DFL)
+
+
 def call_on_terminal(program, sent=None):
     """What a call prints, tells a terminal and ends with, by this program; sent a signal where it has begun."""
     with tempfile.TemporaryDirectory() as folder:
@@ -169,7 +178,8 @@ def call_on_terminal(program, sent=None):
         place.call()
         place.write('crates/fg_run/out/fg_run', f'#!/bin/sh\n{program}\n')
         seen, terminal = pty.openpty()
-        with subprocess.Popen(**place.words(), stdin=subprocess.PIPE, stdout=subprocess.PIPE, stderr=terminal) as done:
+        ends = {'stdin': subprocess.PIPE, 'stdout': subprocess.PIPE, 'stderr': terminal}
+        with subprocess.Popen(**place.words(), **ends, preexec_fn=heed_signals) as done:
             os.close(terminal)
             begun = ''
             if sent:
@@ -213,7 +223,7 @@ def launcher_rows():
     rows = [
         ('how far a first call is', first_call(SAYS), (RAN, TOLD, 7, BUILD)),
         ('crates side by side', first_call(SAYS_RUN, SAYS_ALL, FG_JOBS='3'), (RAN, TOLD_BESIDE, 7, BESIDE.format(3))),
-        ('a build that says nothing', first_call(takes='4'), (RAN, TOLD_LATE, 7, BUILD)),
+        ('a build that says nothing', first_call(takes='6'), (RAN, TOLD_LATE, 7, BUILD)),
         *((f'FG_JOBS={jobs}', first_call(FG_JOBS=jobs), ('', NO_JOBS.format(jobs) + FAILED, 125, ''))
           for jobs in ('0', 'two', '-1', '10000')),
         ('a crate a processor', chosen_call(3, 90_000_000), BESIDE.format(3)),
@@ -223,7 +233,7 @@ def launcher_rows():
         *((shows, second_call(change), wanted) for shows, change, wanted in SECOND),
         *((f'on a terminal, {shows}', call_on_terminal(program), wanted) for shows, program, wanted in ON_TERMINAL),
         *((f'on a terminal, {sent.name}', call_on_terminal(WAITS, sent), ('begun\nended\n', '', -sent))
-          for sent in (signal.SIGHUP, signal.SIGINT, signal.SIGTERM)),
+          for sent in SENT),
     ]
     for shows, found, wanted in rows:
         yield f'the launcher: {shows}', [] if found == wanted else [f'gave {found}, not {wanted}']
