@@ -234,6 +234,7 @@ def launcher_rows():
         *((f'on a terminal, {shows}', call_on_terminal(program), wanted) for shows, program, wanted in ON_TERMINAL),
         *((f'on a terminal, {sent.name}', call_on_terminal(WAITS, sent), ('begun\nended\n', '', -sent))
           for sent in SENT),
+        ('on a terminal, an end by a signal', call_on_terminal('echo begun; exec sleep 60', SENT[0]), ('begun\n', '', -SENT[0])),
     ]
     for shows, found, wanted in rows:
         yield f'the launcher: {shows}', [] if found == wanted else [f'gave {found}, not {wanted}']

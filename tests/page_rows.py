@@ -59,10 +59,11 @@ def call_of(transcript):
 
 
 def rows_in(page):
-    """The rows of a page, each named by its first call."""
+    """The rows of a page, each named by its first call, with the files that they don't make."""
     for block in re.findall(r'^```console\n(.*?)^```$', (TOP / page).read_text(), re.M | re.S):
         calls = [call_of(transcript) for transcript in re.split(r'^\$ ', block, flags=re.M)[1:]]
-        yield Row(f'{page}: {calls[0].words}', calls, FILES)
+        made = {name for call in calls for name in call.leaves}
+        yield Row(f'{page}: {calls[0].words}', calls, {name: held for name, held in FILES.items() if name not in made})
 
 
 TRANSCRIPTS = [row for page in PAGES for row in rows_in(page)]
