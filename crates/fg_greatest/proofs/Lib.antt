@@ -1,0 +1,2 @@
+mod Greatests
+mod Opened
