@@ -92,18 +92,37 @@ def turned(outs):
     return ins
 
 
-def lines(name, argument, n, outs, ins_count, most=2**32 - 1, each=False, quiet=False):
-    """The lines of a run of the program on the graph whose out-lists are these pairs of target and weight."""
+class BadEdge(Exception):
+    """An entry of a list that leads to no vertex."""
+
+    def __init__(self, v, direction, place, target):
+        super().__init__(f'vertex {v} {direction} entry {place} target {target}')
+
+
+def needed(program, active, outs, ins):
+    """The entries that these vertices run over: of which vertex and direction, at which place, and the target and the weight."""
+    for v in active:
+        for direction, row in (('out', outs[v]), ('in', ins[v]))[:1 + program.both]:
+            for place, found in enumerate(row):
+                yield v, direction, place, *found
+
+
+def lines(name, argument, n, outs, ins_count, most=2**32 - 1, each=False, quiet=False, ins=None):
+    """The lines of a run of the program on the graph whose out-lists are these pairs of target and weight, and whose in-lists mirror
+    them where they aren't given. The first entry that is run over and leads to no vertex ends it."""
     program = PROGRAMS[name](argument)
-    ins = turned(outs)
+    ins = turned(outs) if ins is None else ins
     states = [program.init(v, len(outs[v]), len(ins[v])) for v in range(n)]
     yield f'program {name} vertices {n} out {sum(map(len, outs))} in {ins_count}'
     number = 0
     phase, active = stand(program, 0, states)
     while active and number < most:
         runs = {v: program.begin(phase, states[v]) for v in active}
-        mail = [(target, program.edge(runs[v][1], weight))
-                for v in active for target, weight in outs[v] + ins[v] * program.both]
+        mail = []
+        for v, direction, place, target, weight in needed(program, active, outs, ins):
+            if target >= n:
+                raise BadEdge(v, direction, place, target)
+            mail.append((target, program.edge(runs[v][1], weight)))
         for v in active:
             states[v] = runs[v][0]
         for target, message in mail:

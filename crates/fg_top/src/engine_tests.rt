@@ -1,11 +1,10 @@
 //! `flash` running on images that it built, by one worker and by many, over caches of one page and of many: the texts are the
-//! same by any engine, what is read of the drives and in which order, which drive failed, and who waits for whom.
+//! same by any engine, what is read of the drives and in which order, and who waits for whom.
 
 use crate::test_calls::{
-    COMPONENTS, COMPONENTS_FIRST, COMPONENTS_HEAD, DriveFails, EDGES, LEVELS, Lines, Log,
-    NO_DRIVE_FAILS, NONE, call, drive, ends, is_log,
+    COMPONENTS, EDGES, LEVELS, Lines, Log, NO_DRIVE_FAILS, NONE, call, drive, ends, is_log,
 };
-use fg_outside::{Board, DriveOp, GateDrive};
+use fg_outside::{Board, GateDrive};
 use std::alloc::Global;
 use std::process::Abort;
 use std::sync::{Arc, Wait};
@@ -21,9 +20,7 @@ struct Run {
     fans: &'static [(u32, u32)],
     /// For each drive, which of its reads waits, from 1 or 0 for none, and how many reads the other drive has begun by then.
     waits: &'static [(u32, u32)],
-    drive_fails: DriveFails,
     line: &'static str,
-    status: u8,
     lines: Lines,
     /// The reads of each drive, where they have one order; else none.
     logs: &'static [Log],
@@ -36,9 +33,7 @@ const RUN: Run = Run {
     edges: EDGES,
     fans: &[],
     waits: &[(0, 0)],
-    drive_fails: NO_DRIVE_FAILS,
     line: "run --program bfs --source 0 D0",
-    status: 0,
     lines: LEVELS,
     logs: &[],
     tally: (5, 5),
@@ -61,7 +56,7 @@ fn drives(alloc: Global, run: &Run) -> Result<Vec<GateDrive>, Fail> {
     let board = Arc::new(alloc, Board::new(alloc, 2)?)?;
     let mut all = Vec::new(alloc);
     for (number, (nth, reads)) in run.waits.iter().enumerate() {
-        let drive = drive(alloc, number, 0, run.drive_fails)?;
+        let drive = drive(alloc, number, 0, NO_DRIVE_FAILS)?;
         let (own, other) = if number == 1 { (1, 0) } else { (0, 1) };
         let seen = Arc::try_clone(&board)?;
         all.push(GateDrive::new(drive, own, seen, *nth, other, *reads))?;
@@ -75,13 +70,11 @@ fn runs<R: Wait + Threads + Sync + Abort>(rt: &R, alloc: Global, run: &Run) -> R
     let empty = drives(alloc, run)?;
     let built = call(rt, alloc, run.build, text.as_str(), empty, NONE)?;
     let left = call(rt, alloc, run.line, "", built.drives, NONE)?;
-    ends(rt, run.line, &left, run.status, run.lines);
+    ends(rt, run.line, &left, 0, run.lines);
     for (drive, log) in left.drives.iter().zip(run.logs) {
         assert!(rt; is_log(drive.log(), log), "{}", run.line);
     }
-    if run.status == 0 {
-        assert_eq!(rt; left.tally, run.tally, "{}", run.line);
-    }
+    assert_eq!(rt; left.tally, run.tally, "{}", run.line);
     Ok(())
 }
 
@@ -215,26 +208,6 @@ fn reads_pages_beside_each_other_at_once(rt: HostRuntime) -> Result<(), Fail> {
         runs(&rt, rt.alloc(), run)?;
     }
     Ok(())
-}
-
-/// Components on two drives, of which the second fails at its fourth read.
-const FAILING: Run = Run {
-    build: "build --unit 1 D0 D1",
-    waits: &[(0, 0), (0, 0)],
-    drive_fails: (1, DriveOp::Read, 4),
-    line: "run --program wcc --workers 1 --sets 1 --ways 1 D0 D1",
-    status: 5,
-    lines: &[
-        COMPONENTS_HEAD,
-        COMPONENTS_FIRST,
-        "refused: drive 1 failed\n",
-    ],
-    ..RUN
-};
-
-#[test]
-fn names_the_drive_that_fails(rt: HostRuntime) -> Result<(), Fail> {
-    runs(&rt, rt.alloc(), &FAILING)
 }
 
 /// Runs of two workers, each of which reads while the other does. In the first each drive's third read, the first of the run,

@@ -1,5 +1,5 @@
 //! `flash` building images from texts, generating edges, and running on generated edges: what is written, what the drives
-//! hold, each refusal of a text and of a drive, and each call of the outside failing in turn.
+//! hold, each refusal of a text and of a drive, and calls of several drives failing.
 
 use crate::test_calls::{DriveFails, EDGES, Fails, Lines, NO_DRIVE_FAILS, NONE, call, drive, ends};
 use fg_base::limits::PAGE_BYTES;
@@ -185,66 +185,19 @@ const DRIVE_FAILED: Case = Case {
     ..BUILD
 };
 
-/// A call of the source fails.
-const INPUT_FAILED: Case = Case {
-    status: 3,
-    lines: &["refused: input failed\n"],
-    after: &[0],
-    left: None,
-    ..BUILD
-};
-
-/// No line was written.
+/// A call of the source fails, and so does the put of the line that says so.
 const SILENT: Case = Case {
+    fails: Fails { take: 1, put: 1 },
     status: 4,
     lines: &[],
+    after: &[0],
+    left: Some(20),
     ..BUILD
 };
 
-const FAILING: &[Case] = &[
-    Case {
-        drive_fails: (0, DriveOp::Pages, 1),
-        ..DRIVE_FAILED
-    },
-    Case {
-        drive_fails: (0, DriveOp::Append, 1),
-        ..DRIVE_FAILED
-    },
-    Case {
-        drive_fails: (0, DriveOp::Append, 4),
-        after: &[3 * PAGE],
-        ..DRIVE_FAILED
-    },
-    Case {
-        drive_fails: (0, DriveOp::Append, 6),
-        ..BUILD
-    },
-    Case {
-        fails: Fails { take: 1, put: 0 },
-        ..INPUT_FAILED
-    },
-    Case {
-        fails: Fails { take: 8, put: 0 },
-        ..INPUT_FAILED
-    },
-    Case {
-        fails: Fails { take: 0, put: 1 },
-        ..SILENT
-    },
-    Case {
-        fails: Fails { take: 1, put: 1 },
-        after: &[0],
-        left: Some(20),
-        ..SILENT
-    },
-];
-
 #[test]
-fn each_call_of_a_build_fails(rt: HostRuntime) -> Result<(), Fail> {
-    for case in FAILING {
-        does(&rt, rt.alloc(), case)?;
-    }
-    Ok(())
+fn ends_where_a_refusal_cannot_be_written(rt: HostRuntime) -> Result<(), Fail> {
+    does(&rt, rt.alloc(), &SILENT)
 }
 
 /// An append of drive 0 fails where the image's four pages stand on the drives 0, 1, 2 and 0.

@@ -20,6 +20,8 @@ mod checking;
 mod engine;
 #[cfg(test)]
 mod engine_tests;
+#[cfg(test)]
+mod fault_tests;
 mod generating;
 mod in_memory;
 #[cfg(test)]
@@ -32,6 +34,8 @@ mod run;
 mod still_jobs;
 #[cfg(test)]
 mod test_calls;
+#[cfg(test)]
+mod test_images;
 #[cfg(test)]
 mod tests;
 mod wish;

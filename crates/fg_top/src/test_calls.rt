@@ -102,7 +102,7 @@ pub(crate) fn drive(
     Ok(MemDrive::new(alloc, bytes, [(op, call)].to_vec(alloc)?))
 }
 
-/// Does what the words of the line ask for.
+/// Does what the words of the line ask for. The input comes byte by byte.
 pub(crate) fn call<R: Wait + Threads + Sync + Abort, D: Drive + Send>(
     rt: &R,
     alloc: Global,
@@ -116,7 +116,7 @@ pub(crate) fn call<R: Wait + Threads + Sync + Abort, D: Drive + Send>(
     let names = drive_names(alloc, &words)?;
     assert!(rt; names.len() == drives.len(), "{line}");
     let bytes = input.as_bytes().to_vec(alloc)?;
-    let mut source = MemSource::new(alloc, bytes, 3, [fails.take].to_vec(alloc)?);
+    let mut source = MemSource::new(alloc, bytes, 1, [fails.take].to_vec(alloc)?);
     let mut text = MemSink::new(alloc, [fails.put].to_vec(alloc)?);
     let mut tally = Count::new();
     let status = flash(
