@@ -31,6 +31,33 @@ def ranged(option, least, most, past):
         yield refused(f'{option} {number}', f'{run} {number}', f'words range {option}', 2)
 
 
+def with_stats(text, line):
+    """The text of a run that settled, with this line behind its end line."""
+    head, end, values = text.partition('settled 4\n')
+    return head + end + line + '\n' + values
+
+
+def counted(shows, words, drives, line):
+    """A run whose stats end with this line's numbers, whoever came first; with the numbers of reads and pages left out."""
+    text = with_stats(G1_COMPONENTS, 'stats ' + line)
+    return Row(shows, [Call(f"./fg {words} {names(drives)} | sed 's/reads [0-9]* pages [0-9]* //'", text, shell=True)], drives_of(G1, drives, 1))
+
+
+ONCE = 'run --program wcc --workers 1 --sets 1'
+STATS = [
+    row('stats of a cache of one page', f'{ONCE} --ways 1 --stats D0', with_stats(G1_COMPONENTS, 'stats reads 6 pages 6 runs 12 entries 23')),
+    row('stats of a cache of four pages', f'{ONCE} --ways 4 --stats D0', with_stats(G1_COMPONENTS, 'stats reads 1 pages 2 runs 12 entries 23')),
+    row('stats before a sum', 'run --program bfs --source 0 --max 1 --stats --quiet D0',
+        ''.join(G1_TEXT.splitlines(True)[:2]) + 'stopped 1\nstats reads 1 pages 1 runs 1 entries 2\nsum 2\n'),
+    *[counted(f'stats of many workers through one page{way}', f'run --program wcc {LEAST}{way} --stats', 2, 'runs 12 entries 23')
+      for way in ('', ' --helpers')],
+    refused('stats of a run in memory', 'ref --program wcc --stats D0', 'words extra stats', 2),
+    refused('stats of a build', 'build --stats D0', 'words extra stats', 2),
+    refused('a value of stats', 'run --program wcc --stats=1 D0', 'words parse', 2),
+    refused('stats twice', 'run --program wcc --stats --stats D0', 'words parse', 2),
+    refused('stats before unit, where both are extra', 'ref --program wcc --unit 1 --stats D0', 'words extra stats', 2),
+]
+
 ENGINE = [
     same('levels over three drives, however they are run', f'run --program bfs --source 0 {names(3)}', G1_TEXT, drives_of(G1, 3, 2)),
     same('components, however they are run', f'run --program wcc {names(2)}', G1_COMPONENTS, drives_of(G1, 2, 1)),
@@ -38,6 +65,7 @@ ENGINE = [
     same('rank, however it is run', 'run --program rank --max 2 D0', RANK_TEXT, drives_of(image_of(PAIR))),
     same('a list over two pages, however it is run', f'run --program bfs --source 0 {names(2)}', star_text(1025),
          drives_of(image_of(LONG_STAR), 2, 1)),
+    *STATS,
     *ranged('workers', 1, 64, (0, 65)),
     *ranged('sets', 1, 32768, (0, 262145)),
     *ranged('ways', 1, 16, (0, 17)),

@@ -1,2 +1,3 @@
+pub mod FlushLemmas
 mod LineLemmas
 mod ValueLemmas

@@ -1,4 +1,4 @@
--- The lines of a run: its head, its finished iterations and its end.
+-- The lines of a run: its head, its finished iterations, its end and its stats.
 use Rattle.std.specs.Prelude.{ℕ, Bool, true, false, List, [], ◌∷◌, ◌++◌, codes, decimal}
 use Rattle.fg_model.specs.declared.watch.IterLine.{IterLine}
 
@@ -25,3 +25,9 @@ end_word false = codes "stopped "
 -- the line of a run's end, with its own end: how it ended, and after how many iterations
 abbrev pub end_line : Bool → ℕ → List ℕ
 end_line settled iterations = end_word settled ++ decimal iterations ++ codes "\n"
+
+-- the line of a run's stats, with its end: the reads and their pages, the vertex runs and their entries
+abbrev pub stats_line : ℕ → ℕ → ℕ → ℕ → List ℕ
+stats_line reads pages runs entries =
+    codes "stats reads " ++ decimal reads ++ codes " pages " ++ decimal pages ++ codes " runs " ++ decimal runs
+    ++ codes " entries " ++ decimal entries ++ codes "\n"

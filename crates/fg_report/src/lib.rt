@@ -12,7 +12,7 @@ mod sum;
 mod tests;
 mod values;
 
-pub use lines::{write_end, write_head};
+pub use lines::{write_end, write_head, write_stats};
 pub use refusals::write_refusal;
 pub use report_watch::ReportWatch;
 pub use sum::write_sum;

@@ -1,10 +1,10 @@
-//! The lines of a run: its head, its finished iterations and its end.
+//! The lines of a run: its head, its finished iterations, its end and its stats.
 
 ghost use Rattle.std.specs.Prelude.{◌≡◌, ◌+◌, ◌≤◌, [], ◌++◌, length, decimal, OnOk, OnErr, Contains};
 ghost use Rattle.arrayvec.specs.ArrayString.{array_string_len};
 ghost use Rattle.fg_base.specs.Faults.{Counts};
 ghost use Rattle.fg_base.specs.Told.{grown, GrewByFirst};
-ghost use Rattle.fg_report.specs.Lines.{program_names, head_line, iteration_line, end_word, end_line};
+ghost use Rattle.fg_report.specs.Lines.{program_names, head_line, iteration_line, end_word, end_line, stats_line};
 
 use crate::line::{LINE_BYTES, Line, push_number};
 use fg_base::Failed;
@@ -86,6 +86,32 @@ pub fn write_end<K: Sink>(out: &mut K, settled: bool, iterations: u32) -> Result
     let mut line = Line::new();
     line.push_str(word_of(settled));
     push_number(&mut line, u64::from(iterations));
+    line.push_str("\n");
+    write_all(out, line.as_bytes())
+}
+
+/// Writes the line of a run's stats: in how many reads so many pages were read, how many vertices were run, and over how
+/// many entries. By one `write_all`.
+pub fn write_stats<K: Sink>(
+    out: &mut K,
+    reads: u64,
+    pages: u64,
+    runs: u64,
+    entries: u64,
+) -> Result<(), Failed>
+    ensures whole { OnOk result (K.written out.new ≡ grown (K.written out.old) (stats_line reads pages runs entries)) }
+    ensures part { OnErr result (GrewByFirst (stats_line reads pages runs entries) (K.written out.old) (K.written out.new)) }
+    ensures counted { Counts (K.faults out.old) (K.faults out.new) result }
+{
+    let mut line = Line::new();
+    line.push_str("stats reads ");
+    push_number(&mut line, reads);
+    line.push_str(" pages ");
+    push_number(&mut line, pages);
+    line.push_str(" runs ");
+    push_number(&mut line, runs);
+    line.push_str(" entries ");
+    push_number(&mut line, entries);
     line.push_str("\n");
     write_all(out, line.as_bytes())
 }

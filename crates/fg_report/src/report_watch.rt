@@ -12,7 +12,8 @@ use fg_model::{IterLine, Program, Watch};
 use fg_outside::Sink;
 
 /// A watch that writes the line of each finished iteration to its sink, and behind it, where `each` is true, the value
-/// lines of all vertices. Its notes are the bytes that the sink was written, and its count of faults is the sink's.
+/// lines of all vertices; then it flushes the sink, so that an iteration is seen when it is finished. Its notes are the
+/// bytes that the sink was written, and its count of faults is the sink's.
 #[derive(Drop)]
 pub struct ReportWatch<'a, P, K> {
     pub program: &'a P,
@@ -49,15 +50,32 @@ impl<P: Program, K: Sink> Watch for ReportWatch<'_, P, K> {
 
     ghost same_borrows_more = { λ first middle last one other. other ∙ one };
 
+    #[tactic(auto, using(crate::proofs::FlushLemmas::whole_is_part))]
     fn note(&mut self, line: IterLine, states: &[VState]) -> Result<(), Failed> {
-        if let Err(failed) = write_iteration(self.out, line) {
+        if let Err(failed) = write_note(self.out, self.each, self.program, line, states) {
             return Err(failed);
         }
-        if let Err(failed) = write_each(self.out, self.each, self.program, states) {
-            return Err(failed);
-        }
-        Ok(())
+        self.out.flush()
     }
+}
+
+/// Writes the line of a finished iteration, and behind it the value lines where they are asked for.
+#[tactic(auto, using(fg_base::proofs::GrowthLemmas::growth))]
+fn write_note<P: Program, K: Sink>(
+    out: &mut K,
+    each: bool,
+    program: &P,
+    line: IterLine,
+    states: &[VState],
+) -> Result<(), Failed>
+    ensures whole { OnOk result (K.written out.new ≡ grown (K.written out.old) (iteration_text each (P.rules program.now).show line states.now)) }
+    ensures part { OnErr result (GrewByFirst (iteration_text each (P.rules program.now).show line states.now) (K.written out.old) (K.written out.new)) }
+    ensures counted { Counts (K.faults out.old) (K.faults out.new) result }
+{
+    if let Err(failed) = write_iteration(out, line) {
+        return Err(failed);
+    }
+    write_each(out, each, program, states)
 }
 
 /// Writes the value lines where they are asked for.

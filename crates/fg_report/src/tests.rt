@@ -28,9 +28,10 @@ fn the_lines_of_a_run(rt: HostRuntime) -> Result<(), Fail> {
     assert!(rt; write_head(&mut out, "rank", 2, 3, 4).is_ok());
     assert!(rt; write_end(&mut out, true, 5).is_ok());
     assert!(rt; write_end(&mut out, false, 6).is_ok());
+    assert!(rt; write_stats(&mut out, 7, u64::MAX, 0, 18_446_744_073_709_551_614).is_ok());
     assert!(rt; write_sum(&mut out, &Wcc, &STATES).is_ok());
     let want =
-        "program rank vertices 2 out 3 in 4\nsettled 5\nstopped 6\nsum 18446744073709551616\n";
+        "program rank vertices 2 out 3 in 4\nsettled 5\nstopped 6\nstats reads 7 pages 18446744073709551615 runs 0 entries 18446744073709551614\nsum 18446744073709551616\n";
     assert_eq!(rt; out.written(), want.as_bytes());
     Ok(())
 }

@@ -113,14 +113,14 @@ ends_in_memory faults olds news comes other leaves output status more kept left 
 -- the end of a later stage is the job's end
 pub ends_behind : {D : Type 0} (faults : D → ℕ) (olds betweens news : List D) (comes other : Outcome → Type 0) (own leaves : Option Refusal → Type 0) (first : List (List ℕ))
     (f0 f1 f2 : ℕ) (t0 t1 t2 : Option (List ℕ)) (back : Bool) (status : ℕ) →
-    ((outcome : Outcome) → comes outcome → other (behind first outcome)) → NoneRose faults olds betweens → ((end : Option Refusal) → leaves end) →
+    ((outcome : Outcome) → comes outcome → other (behind first outcome)) → NoneRose faults olds betweens → ((end : Option Refusal) → own end → leaves end) →
     f1 ≡ f0 → t1 ≡ grown t0 (concat first) → Ends faults betweens news comes own (output_over f1 f2 t1 t2 back) status →
     Ends faults olds news other leaves (output_over f0 f2 t0 t2 back) status
 ends_behind faults olds betweens news comes other own leaves first f0 f1 f2 t0 t1 t2 back status more kept left same grew ends = record {
   end = ends.end;
   text = concat first ++ ends.text;
   cause = cause_behind faults olds betweens news comes other first more kept ends.end ends.text ends.cause;
-  left = left ends.end;
+  left = left ends.end ends.left;
   written = written_behind f0 f1 f2 t0 t1 t2 back ends.end (concat first) ends.text status same grew ends.written;
 }
 

@@ -2,7 +2,7 @@
 use Rattle.std.proofs.Common.{◌≡◌, ℕ, [], true, Option, None, Some, IfSome, IsSome, Result, Err, List, length, refl, sym, subst, arith}
 use Rattle.fg_base.specs.declared.refusal.Refusal.{Refusal}
 use Rattle.fg_base.specs.declared.refusal.WordFault.{WordFault}
-use Rattle.fg_engine.specs.Tallies.{tallied}
+use Rattle.fg_engine.specs.Tallies.{Tallied, tallied}
 use Rattle.fg_outside.specs.declared.drive.Drive.{Ghosts as DriveGhosts}
 use Rattle.fg_outside.specs.Drives.{EachSame, LogsGrew, RoomyKept, all_told}
 use Rattle.fg_outside.proofs.DriveLemmas.{EachDrive-same, LogsGrew-none}
@@ -134,11 +134,20 @@ stands told runs entries status =
 pub tally_still : (D : Type 0) (job : Job) (told : Option (List (List ℕ))) (runs entries status : ℕ) → is_still job ≡ true →
     KeepsTally (promise_of {D = D} job).of_tally told (tallied runs runs entries entries) status
 tally_still D (Job.Build unit number undirected) told runs entries status still = stands told runs entries status
-tally_still D (Job.Run pick max each quiet workers sets ways depth shift helpers) told runs entries status still = cc
+tally_still D (Job.Run pick max each quiet workers sets ways depth shift helpers stats) told runs entries status still = cc
 tally_still D (Job.Ref pick max each quiet) told runs entries status still = stands told runs entries status
 tally_still D Job.Check told runs entries status still = stands told runs entries status
 tally_still D (Job.Gen start nodes edges) told runs entries status still = stands told runs entries status
 tally_still D (Job.Large pick max workers sets ways depth shift helpers unit undirected start nodes edges drives) told runs entries status still = cc
+
+-- a job that runs nothing over drives has no stats
+pub stats_still : {D : Type 0} (job : Job) (call : Call D) (tally : Tallied) → is_still job ≡ true → (promise_of job).of_stats call tally
+stats_still (Job.Build unit number undirected) call tally still = tt
+stats_still (Job.Run pick max each quiet workers sets ways depth shift helpers stats) call tally still = absurd (cc)
+stats_still (Job.Ref pick max each quiet) call tally still = tt
+stats_still Job.Check call tally still = tt
+stats_still (Job.Gen start nodes edges) call tally still = tt
+stats_still (Job.Large pick max workers sets ways depth shift helpers unit undirected start nodes edges drives) call tally still = tt
 
 pub tally_wrong : (D : Type 0) (words : List (List ℕ)) (fault : WordFault) (told : Option (List (List ℕ))) (output : Output) (runs entries status : ℕ) →
     job_of words ≡ Err fault → IsWritten output (Some (Refusal.Words fault)) (refusal_line (Refusal.Words fault)) status →

@@ -1,5 +1,5 @@
 -- A job, by what opening its drives and its run did.
-use Rattle.std.proofs.Common.{◌≡◌, ◌∙◌, ◌<◌, ℕ, Bool, false, Option, None, Some, IfSome, Result, Ok, List, [], ◌∷◌, nat_le, refl, sym, ap, subst, inl, inr}
+use Rattle.std.proofs.Common.{true, ◌≡◌, ◌∙◌, ◌<◌, ℕ, Bool, false, Option, None, Some, IfSome, Result, Ok, List, [], ◌∷◌, nat_le, refl, sym, ap, subst, inl, inr}
 use Rattle.std.proofs.lemmas.List.{append-nil}
 use Rattle.std.proofs.lemmas.Option.{IfSome_then}
 use Rattle.fg_base.specs.Faults.{Rose}
@@ -16,15 +16,16 @@ use Rattle.fg_outside.specs.declared.drive.Read.{Read}
 use Rattle.fg_outside.specs.Drives.{DriveRead, LogsGrew, LogsGrewBy, LogsGrewByFirst, NoneRose}
 use Rattle.fg_outside.proofs.DriveLemmas.{EachDrive-same, LogsGrew-more, LogsGrewBy-none, LogsGrewByFirst-before, LogsGrewByFirst-more}
 use Rattle.fg_report.specs.Refusals.{refusal_line}
+use Rattle.fg_top.specs.declared.stats.Stats.{Stats}
 use Rattle.fg_top.specs.declared.wish.Wish.{Wish}
 use Rattle.fg_top.specs.Calls.{output_over}
 use Rattle.fg_top.specs.Ends.{Ends, EndsAlone, EndsLeaving, IsCause, IsWritten}
-use Rattle.fg_top.specs.Outcome.{Done, Outcome, WishComesTo, at_once, head_of, held_graph, opened_graph, outcome_of, rules_of, run_in, run_on, run_outcome, source_of}
+use Rattle.fg_top.specs.Outcome.{Done, Outcome, WishComesTo, at_once, head_of, held_graph, last_text, opened_graph, outcome_of, rules_of, run_in, run_on, run_outcome, source_of}
 use Rattle.fg_top.specs.Reads.{IsAskedBy, RunReads, RunReadsAll, image_reads_of, ref_reads, sourced_reads}
 use Rattle.fg_top.specs.Running.{IsSourced, RunComesTo, behind_head}
 use Rattle.fg_top.specs.Tallies.{RoseByWish}
 use Rattle.fg_top.proofs.EndLemmas.{behind, ends_behind, ends_given_up, ends_in_memory, refused_status}
-use Rattle.fg_top.proofs.OutcomeLemmas.{comes_behind_head, comes_in_memory, le_fails, runs_so}
+use Rattle.fg_top.proofs.OutcomeLemmas.{comes_behind_head, comes_in_memory, last_has_stats, le_fails, runs_so}
 
 -- the job ends where a refusal's line was written, or its put or the flush failed
 pub ends_refused : {D : Type 0} (faults : D → ℕ) (olds news : List D) (comes : Outcome → Type 0) (leaves : Option Refusal → List ℕ → Type 0) (refusal : Refusal)
@@ -35,65 +36,65 @@ ends_refused faults olds news comes leaves refusal f0 f1 t0 t1 back status cause
     record { end = Some refusal; text = refusal_line refusal; cause = cause; left = left; written = written }
 
 -- what the run comes to, whatever it is
-some_run : {A : Type 0} → Wish → Option A → (A → Outcome) → Outcome
-some_run wish None outcome_of = at_once (Done [])
-some_run wish (Some told) outcome_of = outcome_of told
+some_run : {A : Type 0} → Wish → Option Stats → Option A → (A → Outcome) → Outcome
+some_run wish stats None outcome_of = at_once (Done (last_text stats true (rules_of wish.pick).show true 0 []))
+some_run wish stats (Some told) outcome_of = outcome_of told
 
-some_run-is : (wish : Wish) (told : Option (List (List ℕ))) (run_of : List (List ℕ) → Run) →
-    RunComesTo (rules_of wish.pick) wish told run_of (some_run wish told (λ helds. behind_head (rules_of wish.pick) wish (run_of helds)))
+some_run-is : (wish : Wish) (stats : Option Stats) (told : Option (List (List ℕ))) (run_of : List (List ℕ) → Run) →
+    RunComesTo (rules_of wish.pick) wish stats told run_of (some_run wish stats told (λ helds. behind_head (rules_of wish.pick) wish stats (run_of helds)))
 unfolding some_run
-some_run-is wish None run_of = tt
-some_run-is wish (Some helds) run_of = refl
+some_run-is wish stats None run_of = last_has_stats stats true (rules_of wish.pick).show true 0 []
+some_run-is wish stats (Some helds) run_of = refl
 
 -- the job ends where the put of the head failed
-pub ends_at_head : {D : Type 0} (faults : D → ℕ) (olds news : List D) (wish : Wish) (told : Option (List (List ℕ))) (header : Header) (run_of : List (List ℕ) → Run)
+pub ends_at_head : {D : Type 0} (faults : D → ℕ) (olds news : List D) (wish : Wish) (stats : Option Stats) (told : Option (List (List ℕ))) (header : Header) (run_of : List (List ℕ) → Run)
     (leaves : Option Refusal → Type 0) (f0 f1 : ℕ) (t0 t1 : Option (List ℕ)) (back : Bool) (status : ℕ) →
-    IfSome told (λ helds. outcome_of wish helds ≡ run_outcome wish (head_of wish.pick header) (run_of helds)) → NoneRose faults olds news → leaves (Some Refusal.Memory) → Rose f0 f1 →
+    IfSome told (λ helds. outcome_of wish stats helds ≡ run_outcome wish stats (head_of wish.pick header) (run_of helds)) → NoneRose faults olds news → leaves (Some Refusal.Memory) → Rose f0 f1 →
     GrewByFirst (head_of wish.pick header) t0 t1 → status ≡ 4 →
-    Ends faults olds news (WishComesTo wish told) leaves (output_over f0 f1 t0 t1 back) status
-ends_at_head faults olds news wish told header run_of leaves f0 f1 t0 t1 back status so kept left rose grew failed =
+    Ends faults olds news (WishComesTo wish stats told) leaves (output_over f0 f1 t0 t1 back) status
+ends_at_head faults olds news wish stats told header run_of leaves f0 f1 t0 t1 back status so kept left rose grew failed =
     let head = head_of wish.pick header in
-    let run = some_run wish told (λ helds. behind_head (rules_of wish.pick) wish (run_of helds)) in
+    let run = some_run wish stats told (λ helds. behind_head (rules_of wish.pick) wish stats (run_of helds)) in
     let Of : List ℕ → Type 0 = λ text. GrewByFirst text t0 t1 in
-    ends_given_up faults olds news (WishComesTo wish told) leaves (behind (head ∷ []) run) 1 f0 f1 t0 t1 back status
-    (comes_behind_head wish told header run_of so run (some_run-is wish told run_of)) kept left rose (subst Of (sym (append-nil head)) grew) failed
+    ends_given_up faults olds news (WishComesTo wish stats told) leaves (behind (head ∷ []) run) 1 f0 f1 t0 t1 back status
+    (comes_behind_head wish stats told header run_of so run (some_run-is wish stats told run_of)) kept left rose (subst Of (sym (append-nil head)) grew) failed
 
 -- the end of the run behind the head is the job's end
-pub ends_after_head : {D : Type 0} (faults : D → ℕ) (olds betweens news : List D) (wish : Wish) (told again : Option (List (List ℕ))) (header : Header)
+pub ends_after_head : {D : Type 0} (faults : D → ℕ) (olds betweens news : List D) (wish : Wish) (stats : Option Stats) (told again : Option (List (List ℕ))) (header : Header)
     (run_of : List (List ℕ) → Run) (own leaves : Option Refusal → Type 0) (f0 f1 f2 : ℕ) (t0 t1 t2 : Option (List ℕ)) (back : Bool) (status : ℕ) →
-    again ≡ told → IfSome told (λ helds. outcome_of wish helds ≡ run_outcome wish (head_of wish.pick header) (run_of helds)) → NoneRose faults olds betweens → ((end : Option Refusal) → leaves end) →
+    again ≡ told → IfSome told (λ helds. outcome_of wish stats helds ≡ run_outcome wish stats (head_of wish.pick header) (run_of helds)) → NoneRose faults olds betweens → ((end : Option Refusal) → own end → leaves end) →
     f1 ≡ f0 → t1 ≡ grown t0 (head_of wish.pick header) →
-    Ends faults betweens news (RunComesTo (rules_of wish.pick) wish again run_of) own (output_over f1 f2 t1 t2 back) status →
-    Ends faults olds news (WishComesTo wish told) leaves (output_over f0 f2 t0 t2 back) status
-ends_after_head faults olds betweens news wish told again header run_of own leaves f0 f1 f2 t0 t1 t2 back status same so kept left stood grew ends =
+    Ends faults betweens news (RunComesTo (rules_of wish.pick) wish stats again run_of) own (output_over f1 f2 t1 t2 back) status →
+    Ends faults olds news (WishComesTo wish stats told) leaves (output_over f0 f2 t0 t2 back) status
+ends_after_head faults olds betweens news wish stats told again header run_of own leaves f0 f1 f2 t0 t1 t2 back status same so kept left stood grew ends =
     let head = head_of wish.pick header in
-    let Of : Option (List (List ℕ)) → Type 0 = λ told. Ends faults betweens news (RunComesTo (rules_of wish.pick) wish told run_of) own (output_over f1 f2 t1 t2 back) status in
-    ends_behind faults olds betweens news (RunComesTo (rules_of wish.pick) wish told run_of) (WishComesTo wish told) own leaves (head ∷ []) f0 f1 f2 t0 t1 t2 back status
-    (comes_behind_head wish told header run_of so) kept left stood (grew ∙ ap (grown t0) (sym (append-nil head))) (subst Of same ends)
+    let Of : Option (List (List ℕ)) → Type 0 = λ told. Ends faults betweens news (RunComesTo (rules_of wish.pick) wish stats told run_of) own (output_over f1 f2 t1 t2 back) status in
+    ends_behind faults olds betweens news (RunComesTo (rules_of wish.pick) wish stats told run_of) (WishComesTo wish stats told) own leaves (head ∷ []) f0 f1 f2 t0 t1 t2 back status
+    (comes_behind_head wish stats told header run_of so) kept left stood (grew ∙ ap (grown t0) (sym (append-nil head))) (subst Of same ends)
 
 -- the same of a run in memory
-pub ends_in_memory_after_head : {D : Type 0} (faults : D → ℕ) (olds news : List D) (wish : Wish) (told : Option (List (List ℕ))) (header : Header) (graph : Graph)
+pub ends_in_memory_after_head : {D : Type 0} (faults : D → ℕ) (olds news : List D) (wish : Wish) (stats : Option Stats) (told : Option (List (List ℕ))) (header : Header) (graph : Graph)
     (leaves : Option Refusal → Type 0) (f0 f1 f2 : ℕ) (t0 t1 t2 : Option (List ℕ)) (back : Bool) (status : ℕ) →
-    IfSome told (λ helds. outcome_of wish helds ≡ run_outcome wish (head_of wish.pick header) (run_in wish graph)) → NoneRose faults olds news → ((end : Option Refusal) → leaves end) →
+    IfSome told (λ helds. outcome_of wish stats helds ≡ run_outcome wish stats (head_of wish.pick header) (run_in wish graph)) → NoneRose faults olds news → ((end : Option Refusal) → leaves end) →
     f1 ≡ f0 → t1 ≡ grown t0 (head_of wish.pick header) →
-    EndsAlone (RunComesTo (rules_of wish.pick) wish (Some graph) (run_in wish)) (output_over f1 f2 t1 t2 back) status →
-    Ends faults olds news (WishComesTo wish told) leaves (output_over f0 f2 t0 t2 back) status
-ends_in_memory_after_head faults olds news wish told header graph leaves f0 f1 f2 t0 t1 t2 back status so kept left stood grew ends =
-    ends_after_head faults olds news news wish told told header (λ helds. run_in wish graph) leaves leaves f0 f1 f2 t0 t1 t2 back status refl so kept left stood grew
-    (ends_in_memory faults news news (RunComesTo (rules_of wish.pick) wish (Some graph) (run_in wish)) (RunComesTo (rules_of wish.pick) wish told (λ helds. run_in wish graph))
-    leaves (output_over f1 f2 t1 t2 back) status (comes_in_memory wish told graph) (EachDrive-same (λ old new. faults new ≡ faults old) (λ drive. refl) news) left ends)
+    EndsAlone (RunComesTo (rules_of wish.pick) wish stats (Some graph) (run_in wish)) (output_over f1 f2 t1 t2 back) status →
+    Ends faults olds news (WishComesTo wish stats told) leaves (output_over f0 f2 t0 t2 back) status
+ends_in_memory_after_head faults olds news wish stats told header graph leaves f0 f1 f2 t0 t1 t2 back status so kept left stood grew ends =
+    ends_after_head faults olds news news wish stats told told header (λ helds. run_in wish graph) leaves leaves f0 f1 f2 t0 t1 t2 back status refl so kept (λ end own. left end) stood grew
+    (ends_in_memory faults news news (RunComesTo (rules_of wish.pick) wish stats (Some graph) (run_in wish)) (RunComesTo (rules_of wish.pick) wish stats told (λ helds. run_in wish graph))
+    leaves (output_over f1 f2 t1 t2 back) status (comes_in_memory wish stats told graph) (EachDrive-same (λ old new. faults new ≡ faults old) (λ drive. refl) news) left ends)
 
 -- the outcome of a run over the graph that was read
-pub runs_loaded : (wish : Wish) (told again : Option (List (List ℕ))) (opened : Opened) (graph : Graph) → again ≡ told →
+pub runs_loaded : (wish : Wish) (stats : Option Stats) (told again : Option (List (List ℕ))) (opened : Opened) (graph : Graph) → again ≡ told →
     IfSome told (λ helds. opening_of helds ≡ Ok opened) → IsSourced wish.pick opened.header.n → IfSome again (λ helds. graph ≡ graph_on opened helds) →
-    IfSome told (λ helds. outcome_of wish helds ≡ run_outcome wish (head_of wish.pick opened.header) (run_in wish graph))
-runs_loaded wish told again opened graph same opening sourced read =
+    IfSome told (λ helds. outcome_of wish stats helds ≡ run_outcome wish stats (head_of wish.pick opened.header) (run_in wish graph))
+runs_loaded wish stats told again opened graph same opening sourced read =
     let Of : Option (List (List ℕ)) → Type 0 = λ told. IfSome told (λ helds. graph ≡ graph_on opened helds) in
-    loaded told (runs_so wish told opened opening sourced) (subst Of same read) where
-      loaded : (told : Option (List (List ℕ))) → IfSome told (λ helds. outcome_of wish helds ≡ run_outcome wish (head_of wish.pick opened.header) (run_on wish opened helds)) →
-          IfSome told (λ helds. graph ≡ graph_on opened helds) → IfSome told (λ helds. outcome_of wish helds ≡ run_outcome wish (head_of wish.pick opened.header) (run_in wish graph))
+    loaded told (runs_so wish stats told opened opening sourced) (subst Of same read) where
+      loaded : (told : Option (List (List ℕ))) → IfSome told (λ helds. outcome_of wish stats helds ≡ run_outcome wish stats (head_of wish.pick opened.header) (run_on wish opened helds)) →
+          IfSome told (λ helds. graph ≡ graph_on opened helds) → IfSome told (λ helds. outcome_of wish stats helds ≡ run_outcome wish stats (head_of wish.pick opened.header) (run_in wish graph))
       loaded None so read = tt
-      loaded (Some helds) so read = so ∙ ap (λ graph. run_outcome wish (head_of wish.pick opened.header) (run_in wish graph)) (sym read)
+      loaded (Some helds) so read = so ∙ ap (λ graph. run_outcome wish stats (head_of wish.pick opened.header) (run_in wish graph)) (sym read)
 
 -- what is read of the drives by a run in memory: where opening ended, where reading ended, and all
 pub ref_reads_first : {D : Type 0} (log : D → Option (List Read)) (wish : Wish) (told : Option (List (List ℕ))) (olds news : List D) →

@@ -3,12 +3,12 @@ mod BuildEnds
 mod CheckEnds
 mod EndLemmas
 mod FlashLemmas
-mod FlushLemmas
 mod JobLemmas
 mod MadeEnds
 mod MadeLaws
 mod MeaningLemmas
 mod OutcomeLemmas
 mod RunEnds
+mod StatsLemmas
 mod TallyLemmas
 mod UnreadLemmas

@@ -174,11 +174,11 @@ gives_generated held faults plan recipe drives opens holds =
 
 -- what the wish comes to on drives that hold the generated edges
 comes_generated : {D : Type 0} (held : D → Option (List ℕ)) (wish : Wish) (recipe : Recipe) (drives : List D) → GiveGenerated held recipe drives →
-    (outcome : Outcome) → WishComesTo wish (all_told held drives) outcome → LargeComesTo wish recipe outcome
+    (outcome : Outcome) → WishComesTo wish None (all_told held drives) outcome → LargeComesTo wish recipe outcome
 unfolding outcome_of
 comes_generated held wish recipe drives gives outcome comes =
-    let P : Option (List (List ℕ)) → Type 0 = λ told. WishComesTo wish told outcome in
-    subst P gives.told comes ∙ ap (outcome_on wish) gives.graph
+    let P : Option (List (List ℕ)) → Type 0 = λ told. WishComesTo wish None told outcome in
+    subst P gives.told comes ∙ ap (outcome_on wish None) gives.graph
 
 outcome_so : (comes other : Outcome → Type 0) → ((outcome : Outcome) → comes outcome → other outcome) → (close : Close) (last text : List ℕ) →
     IsOutcome comes close last text → IsOutcome other close last text
@@ -202,12 +202,12 @@ cause_undriven faults olds news comes other more never (Some refusal) text cause
 -- the end of the run on the drives is the job's end
 pub ends_generated : {D : Type 0} (held : D → Option (List ℕ)) (faults : D → ℕ) (plan : Plan) (recipe : Recipe) (wish : Wish) (olds news : List D) (leaves : Option Refusal → Type 0) (output : Output) (status : ℕ) →
     ((edges : EdgeList) → AreEdges edges → OpenToEdges (all_drive_bytes plan edges) edges) → HoldGenerated held faults plan recipe olds → NoneRose faults olds news →
-    Ends faults olds news (WishComesTo wish (all_told held olds)) leaves output status → EndsAlone (LargeComesTo wish recipe) output status
+    Ends faults olds news (WishComesTo wish None (all_told held olds)) leaves output status → EndsAlone (LargeComesTo wish recipe) output status
 ends_generated held faults plan recipe wish olds news leaves output status opens holds kept ends =
     record {
       end = ends.end;
       text = ends.text;
-      cause = cause_undriven faults olds news (WishComesTo wish (all_told held olds)) (LargeComesTo wish recipe)
+      cause = cause_undriven faults olds news (WishComesTo wish None (all_told held olds)) (LargeComesTo wish recipe)
           (comes_generated held wish recipe olds (gives_generated held faults plan recipe olds opens holds))
           (λ number rose. never_first 0 faults number olds news holds.hold.unfailed kept rose) ends.end ends.text ends.cause;
       left = tt;
@@ -248,9 +248,9 @@ means_generated held faults plan recipe wish olds opens holds means =
 pub cause_of_generating : (wish : Wish) (recipe : Recipe) (refusal : Refusal) → MadeRefused recipe.undirected (generated_text recipe.start recipe.nodes recipe.edges) refusal →
     IsCause {D = ℕ} (λ drive. drive) [] [] (LargeComesTo wish recipe) (Some refusal) (refusal_line refusal)
 cause_of_generating wish recipe Refusal.Memory why =
-    (tt, record { outcome = outcome_on wish (generated_graph recipe); is_one = refl; count = 0; text_is = refl })
+    (tt, record { outcome = outcome_on wish None (generated_graph recipe); is_one = refl; count = 0; text_is = refl })
 cause_of_generating wish recipe (Refusal.TooManyEdges line) why =
-    (tt, record { outcome = at_once (Refuses (Refusal.TooManyEdges line)); is_one = sym (ap (λ says. outcome_on wish (edges_graph says)) why); closes = refl; text_is = refl })
+    (tt, record { outcome = at_once (Refuses (Refusal.TooManyEdges line)); is_one = sym (ap (λ says. outcome_on wish None (edges_graph says)) why); closes = refl; text_is = refl })
 cause_of_generating wish recipe refusal why = absurd why
 
 pub generating_not_output : (undirected : Bool) (text : List ℕ) (refusal : Refusal) → MadeRefused undirected text refusal → refusal ≢ Refusal.OutputFault

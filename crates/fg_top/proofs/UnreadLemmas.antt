@@ -1,10 +1,10 @@
 -- Calls whose words weren't read for want of memory: nothing happens, and whatever the job is its promise is kept.
-use Rattle.std.proofs.Common.{◌≡◌, ◌≢◌, ◌∙◌, ⊎_elim, ℕ, ◌/◌, [], Bool, true, false, Option, None, Some, IfSome, Result, Ok, Err, List, length, refl, sym, inl, inr, arith}
+use Rattle.std.proofs.Common.{◌≡◌, ◌≢◌, ◌∙◌, ⊎_elim, ℕ, ◌/◌, [], Bool, true, false, Option, None, Some, IfSome, Result, Ok, Err, List, length, refl, sym, subst, inl, inr, arith}
 use Rattle.fg_base.specs.declared.refusal.Refusal.{Refusal}
 use Rattle.fg_base.specs.declared.refusal.WordFault.{WordFault}
 use Rattle.fg_build.specs.Layouts.{Plan, drive_bytes}
 use Rattle.fg_build.specs.OpeningReads.{opening_reads}
-use Rattle.fg_engine.specs.Tallies.{RoseWithin, tallied}
+use Rattle.fg_engine.specs.Tallies.{RoseWithin, Tallied, tallied}
 use Rattle.fg_model.specs.Edges.{EdgeList}
 use Rattle.fg_model.specs.Iteration.{Begun}
 use Rattle.fg_outside.specs.declared.drive.Drive.{Ghosts as DriveGhosts}
@@ -29,12 +29,14 @@ use Rattle.fg_top.specs.Outcome.{Done, Refuses, at_once, outcome_on, wish_for}
 use Rattle.fg_top.specs.Promise.{Promise}
 use Rattle.fg_top.specs.Reads.{RunReads, ref_reads}
 use Rattle.fg_top.specs.Running.{words_refusal}
+use Rattle.fg_top.specs.Stats.{CountsCall, WishComesWithStats, asked}
 use Rattle.fg_top.specs.Statuses.{CameToEnd}
 use Rattle.fg_top.proofs.BuildEnds.{cut_build}
 use Rattle.fg_top.proofs.CheckEnds.{cut_check}
 use Rattle.fg_top.proofs.EndLemmas.{not_come, refused_status}
 use Rattle.fg_top.proofs.FlashLemmas.{always, held_same, keeps_wrong, roomy_same, tally_wrong, untouched}
 use Rattle.fg_top.proofs.OutcomeLemmas.{cut_at_once}
+use Rattle.fg_top.proofs.StatsLemmas.{leaves_refused, no_stats}
 use Rattle.fg_top.proofs.TallyLemmas.{none_began}
 use Rattle.fg_words.specs.declared.jobs.Job.{Job}
 use Rattle.fg_words.specs.declared.jobs.JobFault.{JobFault}
@@ -135,6 +137,12 @@ none_whole log reads (Some helds) olds = LogsGrewByFirst-none log (reads helds) 
 none_read : {D : Type 0} (tells : DriveGhosts D) (olds : List D) → IfSome (all_told tells.held olds) (λ helds. LogsGrew tells.log [] olds olds)
 none_read tells olds = always (all_told tells.held olds) (LogsGrew tells.log [] olds olds) (LogsGrew-none tells.log olds)
 
+-- a run with stats that is cut short at once
+cut_with_stats : (is_asked : Bool) (wish : Wish) (told : Option (List (List ℕ))) → IsCutShort (WishComesWithStats is_asked wish told) memory_line memory_line
+cut_with_stats is_asked wish told =
+    let cut = cut_at_once wish (asked is_asked no_stats) told memory_line in
+    record { outcome = cut.outcome; is_one = (no_stats, cut.is_one); count = cut.count; text_is = cut.text_is }
+
 allows_job : {D : Type 0} (job : Job) (tells : DriveGhosts D) (olds : List D) (left : Option (List ℕ)) (faults : ℕ) (output : Output) (status : ℕ) →
     AllowsNothing (promise_of job) (untouched tells olds left faults output status)
 allows_job (Job.Build unit number undirected) tells olds left faults output status =
@@ -149,8 +157,8 @@ allows_job (Job.Build unit number undirected) tells olds left faults output stat
       takes = took_none left;
       counts = inl refl;
     }
-allows_job (Job.Run pick max each quiet workers sets ways depth shift helpers) tells olds left faults output status = record {
-  cut = cut_at_once (wish_for pick max each quiet) (all_told tells.held olds) memory_line;
+allows_job (Job.Run pick max each quiet workers sets ways depth shift helpers stats) tells olds left faults output status = record {
+  cut = cut_with_stats stats (wish_for pick max each quiet) (all_told tells.held olds);
   leaves = held_same tells.held olds;
   leaves_at = held_same tells.held olds;
   keeps = roomy_same tells.room tells.faults olds;
@@ -160,7 +168,7 @@ allows_job (Job.Run pick max each quiet workers sets ways depth shift helpers) t
   counts = refl;
 }
 allows_job (Job.Ref pick max each quiet) tells olds left faults output status = record {
-  cut = cut_at_once (wish_for pick max each quiet) (all_told tells.held olds) memory_line;
+  cut = cut_at_once (wish_for pick max each quiet) None (all_told tells.held olds) memory_line;
   leaves = held_same tells.held olds;
   leaves_at = held_same tells.held olds;
   keeps = roomy_same tells.room tells.faults olds;
@@ -191,7 +199,7 @@ allows_job (Job.Gen start nodes edges) tells olds left faults output status = re
 }
 allows_job (Job.Large pick max workers sets ways depth shift helpers unit undirected start nodes edges drives) tells olds left faults output status = record {
   cut = record {
-    outcome = outcome_on (wish_for pick max false true) (generated_graph (recipe_for start nodes edges undirected));
+    outcome = outcome_on (wish_for pick max false true) None (generated_graph (recipe_for start nodes edges undirected));
     is_one = refl;
     count = 0;
     text_is = refl;
@@ -235,7 +243,7 @@ unbegun begins (Some helds) output runs entries status written =
 stands_by : (D : Type 0) (given : Result Job WordFault) (runs entries status : ℕ) → (promise_by {D = D} given).of_tally.stands status (tallied runs runs entries entries)
 stands_by D (Err fault) runs entries status = record { runs = refl; entries = refl }
 stands_by D (Ok (Job.Build unit number undirected)) runs entries status = record { runs = refl; entries = refl }
-stands_by D (Ok (Job.Run pick max each quiet workers sets ways depth shift helpers)) runs entries status = λ refused. record { runs = refl; entries = refl }
+stands_by D (Ok (Job.Run pick max each quiet workers sets ways depth shift helpers stats)) runs entries status = λ refused. record { runs = refl; entries = refl }
 stands_by D (Ok (Job.Ref pick max each quiet)) runs entries status = record { runs = refl; entries = refl }
 stands_by D (Ok Job.Check) runs entries status = record { runs = refl; entries = refl }
 stands_by D (Ok (Job.Gen start nodes edges)) runs entries status = record { runs = refl; entries = refl }
@@ -248,6 +256,35 @@ tally_unread D given told output runs entries status written = record {
   went = unbegun (promise_by {D = D} given).of_tally.begins told output runs entries status written;
   stood = stands_by D given runs entries status;
 }
+
+-- the stats of a run that didn't begin
+pub stats_unread : {D : Type 0} (given : Result Job WordFault) (tells : DriveGhosts D) (olds : List D) (left : Option (List ℕ)) (faults : ℕ) (output : Output) (status : ℕ) (tally : Tallied) →
+    IsWritten output (Some Refusal.Memory) memory_line status → (promise_by given).of_stats (untouched tells olds left faults output status) tally
+stats_unread (Err fault) tells olds left faults output status tally written = tt
+stats_unread (Ok (Job.Build unit number undirected)) tells olds left faults output status tally written = tt
+stats_unread (Ok (Job.Run pick max each quiet workers sets ways depth shift helpers stats)) tells olds left faults output status tally written =
+    let cut = cut_at_once (wish_for pick max each quiet) (asked stats no_stats) (all_told tells.held olds) memory_line in
+    record {
+      stats = no_stats;
+      ends = record {
+        end = Some Refusal.Memory;
+        text = memory_line;
+        cause = (held_same tells.faults olds, cut);
+        left = leaves_refused tells.held olds olds stats (CountsCall no_stats tells olds olds tally) Refusal.Memory (held_same tells.held olds);
+        written = written;
+      };
+    }
+stats_unread (Ok (Job.Ref pick max each quiet)) tells olds left faults output status tally written = tt
+stats_unread (Ok Job.Check) tells olds left faults output status tally written = tt
+stats_unread (Ok (Job.Gen start nodes edges)) tells olds left faults output status tally written = tt
+stats_unread (Ok (Job.Large pick max workers sets ways depth shift helpers unit undirected start nodes edges drives)) tells olds left faults output status tally written = tt
+
+pub stats_refused : {D : Type 0} (words : List (List ℕ)) (fault : JobFault) (tells : DriveGhosts D) (olds : List D) (left : Option (List ℕ)) (faults : ℕ) (output : Output) (status : ℕ) (tally : Tallied) →
+    IsJobOf words (Err fault) → IsWritten output (Some (words_refusal fault)) (refusal_line (words_refusal fault)) status →
+    (promise_by (job_of words)).of_stats (untouched tells olds left faults output status) tally
+stats_refused words JobFault.Memory tells olds left faults output status tally is written = stats_unread (job_of words) tells olds left faults output status tally written
+stats_refused words (JobFault.Words fault) tells olds left faults output status tally is written =
+    let Of : Result Job WordFault → Type 0 = λ given. (promise_by given).of_stats (untouched tells olds left faults output status) tally in subst Of (sym is) tt
 
 -- words that give no job
 pub keeps_refused : {D : Type 0} (words : List (List ℕ)) (fault : JobFault) (tells : DriveGhosts D) (olds : List D) (left : Option (List ℕ)) (faults : ℕ) (output : Output) (status : ℕ) →

@@ -18,7 +18,7 @@ use Rattle.fg_words.specs.Words.{job_of}
 
 abbrev pub promise_of : {D : Type 0} → Job → Promise D
 promise_of (Build unit number undirected) = build_promise unit number undirected
-promise_of (Run pick max each quiet workers sets ways depth shift helpers) = run_promise (wish_for pick max each quiet)
+promise_of (Run pick max each quiet workers sets ways depth shift helpers stats) = run_promise stats (wish_for pick max each quiet)
 promise_of (Ref pick max each quiet) = ref_promise (wish_for pick max each quiet)
 promise_of Check = check_promise
 promise_of (Gen start nodes edges) = gen_promise start nodes edges

@@ -1,5 +1,5 @@
 -- What a run on generated edges promises.
-use Rattle.std.specs.Prelude.{◌≡◌, ℕ, Bool, Result, Ok, Err, length}
+use Rattle.std.specs.Prelude.{◌≡◌, ℕ, Bool, None, Result, Ok, Err, length}
 use Rattle.fg_base.specs.declared.refusal.Refusal.{Refusal}
 use Rattle.fg_image.specs.Made.{graph_of_edges}
 use Rattle.fg_model.specs.Edges.{EdgeList}
@@ -32,7 +32,7 @@ abbrev pub generated_graph : Recipe → Result Counted Refusal
 generated_graph recipe = edges_graph (generated recipe)
 
 abbrev pub LargeComesTo : Wish → Recipe → Outcome → Type 0
-LargeComesTo wish recipe outcome = outcome ≡ outcome_on wish (generated_graph recipe)
+LargeComesTo wish recipe outcome = outcome ≡ outcome_on wish None (generated_graph recipe)
 
 -- the tally counts the run; it stands where drives are refused for what they hold
 abbrev pub counts_generated : Wish → Recipe → OfTally

@@ -17,5 +17,6 @@ pub mod Reads
 pub mod RefJob
 pub mod RunJob
 pub mod Running
+pub mod Stats
 pub mod Statuses
 pub mod Tallies

@@ -14,11 +14,12 @@ use Rattle.fg_model.specs.Program.{Rules}
 use Rattle.fg_model.specs.Run.{Ending, Finished, Refused, Run, Settled, Stopped, run}
 use Rattle.fg_model.specs.Watch.{line_of}
 use Rattle.fg_rank.specs.Rank.{rank}
-use Rattle.fg_report.specs.Lines.{end_line, head_line}
+use Rattle.fg_report.specs.Lines.{end_line, head_line, stats_line}
 use Rattle.fg_report.specs.ReportWatch.{iteration_text}
 use Rattle.fg_report.specs.Sum.{sum_line}
 use Rattle.fg_report.specs.Values.{value_lines}
 use Rattle.fg_words.specs.declared.jobs.Pick.{Pick}
+use Rattle.fg_top.specs.declared.stats.Stats.{Stats}
 use Rattle.fg_top.specs.declared.wish.Wish.{Wish}
 use Rattle.fg_walks.specs.Bfs.{bfs}
 use Rattle.fg_walks.specs.Sssp.{sssp}
@@ -93,25 +94,35 @@ abbrev pub values_or_sum : Bool → (VState → Value) → List VState → List 
 values_or_sum true show states = sum_line show states
 values_or_sum false show states = value_lines show states
 
+-- the line of stats, where there are some
+abbrev pub stats_text : Option Stats → List ℕ
+stats_text None = []
+stats_text (Some stats) = stats_line stats.reads stats.pages stats.runs stats.entries
+
+-- the last text of a run: its end line, its stats where there are some, and its values or their sum
+abbrev pub last_text : Option Stats → Bool → (VState → Value) → Bool → ℕ → List VState → List ℕ
+last_text stats quiet show settled iterations states =
+    end_line settled iterations ++ (stats_text stats ++ values_or_sum quiet show states)
+
 -- what is written of a finished iteration
 abbrev pub text_of : Bool → (VState → Value) → Finished → List ℕ
 text_of each show iteration = iteration_text each show (line_of iteration) iteration.states
 
--- how a run closes: its end line and its values, or its first bad edge
-abbrev pub run_close : Bool → (VState → Value) → Ending → ℕ → List VState → Close
-run_close quiet show Settled iterations states = Done (end_line true iterations ++ values_or_sum quiet show states)
-run_close quiet show Stopped iterations states = Done (end_line false iterations ++ values_or_sum quiet show states)
-run_close quiet show (Refused begun bad) iterations states = Refuses (Refusal.BadEdge bad)
+-- how a run closes: its last text, or its first bad edge
+abbrev pub run_close : Option Stats → Bool → (VState → Value) → Ending → ℕ → List VState → Close
+run_close stats quiet show Settled iterations states = Done (last_text stats quiet show true iterations states)
+run_close stats quiet show Stopped iterations states = Done (last_text stats quiet show false iterations states)
+run_close stats quiet show (Refused begun bad) iterations states = Refuses (Refusal.BadEdge bad)
 
 -- the head: the program and the counts of the header
 abbrev pub head_of : Pick → Header → List ℕ
 head_of pick header = head_line (name_of pick) header.n header.out_entries header.in_entries
 
 -- a run's outcome: this head, what is written of each finished iteration, and how it closes
-abbrev pub run_outcome : Wish → List ℕ → Run → Outcome
-run_outcome wish head run = record {
+abbrev pub run_outcome : Wish → Option Stats → List ℕ → Run → Outcome
+run_outcome wish stats head run = record {
   lines = head ∷ map (text_of wish.each (rules_of wish.pick).show) run.finished;
-  close = run_close wish.quiet (rules_of wish.pick).show run.ending run.iterations run.states;
+  close = run_close stats wish.quiet (rules_of wish.pick).show run.ending run.iterations run.states;
 }
 
 -- the outcome where the source, if there is one, is one of so many vertices; else the source is refused
@@ -120,15 +131,15 @@ where_vertex None vertices outcome = outcome
 where_vertex (Some source) vertices outcome =
     if nat_le vertices source then at_once (Refuses (Refusal.BadSource source vertices)) else outcome
 
--- the outcome of the run that is wished for on a graph with its counts, or of what refuses to give one
-abbrev pub outcome_on : Wish → Result Counted Refusal → Outcome
-outcome_on wish (Err refusal) = at_once (Refuses refusal)
-outcome_on wish (Ok counted) =
+-- the outcome, with these stats, of the run that is wished for on a graph with its counts, or of what refuses to give one
+abbrev pub outcome_on : Wish → Option Stats → Result Counted Refusal → Outcome
+outcome_on wish stats (Err refusal) = at_once (Refuses refusal)
+outcome_on wish stats (Ok counted) =
     where_vertex (source_of wish.pick) counted.vertices
-    (run_outcome wish (head_line (name_of wish.pick) counted.vertices counted.outs counted.ins) (run_in wish counted.graph))
+    (run_outcome wish stats (head_line (name_of wish.pick) counted.vertices counted.outs counted.ins) (run_in wish counted.graph))
 
-unfoldable pub outcome_of : Wish → List (List ℕ) → Outcome
-outcome_of wish helds = outcome_on wish (held_graph helds)
+unfoldable pub outcome_of : Wish → Option Stats → List (List ℕ) → Outcome
+outcome_of wish stats helds = outcome_on wish stats (held_graph helds)
 
 -- a source that some number of vertices refuses
 abbrev pub IsOwnSource : Option ℕ → ℕ → ℕ → Type 0
@@ -139,15 +150,22 @@ IsOwnSource (Some own) source vertices = (own ≡ source) × (vertices ≤ sourc
 abbrev pub HasHead : Pick → List (List ℕ) → Type 0
 HasHead pick lines = (header : Header) × (rest : List (List ℕ)) × (lines ≡ head_of pick header ∷ rest)
 
--- what a run may write and how it may close where some drive doesn't tell its bytes: behind its head, done or refused for
--- a bad edge; or, before anything was written, refused for what drives hold or for its own source
-abbrev pub MayComeTo : Wish → List (List ℕ) → Close → Type 0
-MayComeTo wish lines (Done text) = HasHead wish.pick lines
-MayComeTo wish lines (Refuses (Refusal.BadSource source vertices)) = IsOwnSource (source_of wish.pick) source vertices × (lines ≡ [])
-MayComeTo wish lines (Refuses (Refusal.BadEdge bad)) = HasHead wish.pick lines
-MayComeTo wish lines (Refuses refusal) = MatchOpening refusal ⊥ (λ drive. ⊥) (lines ≡ [])
+-- the text begins with some end line, and goes on with these stats
+pub record HasStats (stats : Option Stats) (text : List ℕ) : Type 0 where
+  pub settled : Bool
+  pub iterations : ℕ
+  pub rest : List ℕ
+  pub text_is : text ≡ end_line settled iterations ++ (stats_text stats ++ rest)
 
--- the run that is wished for comes to this outcome, by what the drives tell of their bytes
-abbrev pub WishComesTo : Wish → Option (List (List ℕ)) → Outcome → Type 0
-WishComesTo wish None outcome = MayComeTo wish outcome.lines outcome.close
-WishComesTo wish (Some helds) outcome = outcome ≡ outcome_of wish helds
+-- what a run may write and how it may close where some drive doesn't tell its bytes: behind its head, done with these stats or
+-- refused for a bad edge; or, before anything was written, refused for what drives hold or for its own source
+abbrev pub MayComeTo : Wish → Option Stats → List (List ℕ) → Close → Type 0
+MayComeTo wish stats lines (Done text) = HasHead wish.pick lines × HasStats stats text
+MayComeTo wish stats lines (Refuses (Refusal.BadSource source vertices)) = IsOwnSource (source_of wish.pick) source vertices × (lines ≡ [])
+MayComeTo wish stats lines (Refuses (Refusal.BadEdge bad)) = HasHead wish.pick lines
+MayComeTo wish stats lines (Refuses refusal) = MatchOpening refusal ⊥ (λ drive. ⊥) (lines ≡ [])
+
+-- the run that is wished for comes with these stats to this outcome, by what the drives tell of their bytes
+abbrev pub WishComesTo : Wish → Option Stats → Option (List (List ℕ)) → Outcome → Type 0
+WishComesTo wish stats None outcome = MayComeTo wish stats outcome.lines outcome.close
+WishComesTo wish stats (Some helds) outcome = outcome ≡ outcome_of wish stats helds

@@ -39,8 +39,8 @@ pub record OfTally : Type 1 where
   pub begins : List (List ℕ) → List Begun
   pub stands : ℕ → Tallied → Type 0
 
--- what the job comes to where memory suffices and the outside doesn't fail, what is surely written, and what the values mean that
--- it printed on drives that hold these bytes
+-- what the job comes to where memory suffices and the outside doesn't fail, what is surely written, what its stats count, and what the
+-- values mean that it printed on drives that hold these bytes
 pub record Promise (D : Type 0) : Type 1 where
   pub comes_to : Call D → Outcome → Type 0
   pub writes : Output → ℕ → Type 0
@@ -48,6 +48,7 @@ pub record Promise (D : Type 0) : Type 1 where
   pub of_reads : OfReads D
   pub of_input : OfInput
   pub of_tally : OfTally
+  pub of_stats : Call D → Tallied → Type 0
   pub means : List (List ℕ) → Type 0
 
 -- the drives hold what they held, and none that tells its room fails
@@ -94,5 +95,6 @@ alone comes_to = record {
   of_reads = unread;
   of_input = untaken;
   of_tally = standing;
+  of_stats = λ call tally. Unit {0};
   means = λ helds. Unit {0};
 }

@@ -1,4 +1,5 @@
 -- What a run over the whole graph in memory promises.
+use Rattle.std.specs.Prelude.{None}
 use Rattle.fg_outside.specs.Drives.{LogsGrew, LogsGrewByFirst}
 use Rattle.fg_top.specs.declared.wish.Wish.{Wish}
 use Rattle.fg_top.specs.Calls.{told_by}
@@ -19,7 +20,7 @@ reads_whole wish = record {
 -- the promise
 abbrev pub ref_promise : {D : Type 0} → Wish → Promise D
 ref_promise {D} wish =
-    let other : Promise D = alone (λ call. WishComesTo wish (told_by call)) in
+    let other : Promise D = alone (λ call. WishComesTo wish None (told_by call)) in
     record other {
       of_drives = opens;
       of_reads = reads_whole wish;

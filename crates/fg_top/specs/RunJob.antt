@@ -1,5 +1,5 @@
 -- What a run over drives promises.
-use Rattle.std.specs.Prelude.{ℕ, IfSome, Ok, List}
+use Rattle.std.specs.Prelude.{ℕ, Bool, IfSome, Ok, List}
 use Rattle.fg_base.specs.Refusal.{status_of}
 use Rattle.fg_base.specs.declared.refusal.Refusal.{Refusal}
 use Rattle.fg_build.specs.declared.opened.Opened.{Opened}
@@ -8,14 +8,16 @@ use Rattle.fg_engine.specs.Tallies.{RoseByRun, RoseWithin, Tallied}
 use Rattle.fg_model.specs.Run.{begun_of}
 use Rattle.fg_outside.specs.declared.drive.Drive.{Ghosts as DriveGhosts}
 use Rattle.fg_outside.specs.Drives.{EachSame, LogsGrewBy, RoomyKept, all_told}
+use Rattle.fg_top.specs.declared.stats.Stats.{Stats}
 use Rattle.fg_top.specs.declared.wish.Wish.{Wish}
 use Rattle.fg_top.specs.Calls.{Output, told_by}
-use Rattle.fg_top.specs.Ends.{Ends, LeavesHeld}
+use Rattle.fg_top.specs.Ends.{Ends}
 use Rattle.fg_top.specs.Meaning.{MeansWish}
-use Rattle.fg_top.specs.Outcome.{WishComesTo, held_graph, rules_of, run_on}
+use Rattle.fg_top.specs.Outcome.{held_graph, rules_of, run_on}
 use Rattle.fg_top.specs.Promise.{OfDrives, OfReads, OfTally, Promise, alone, left_alone}
 use Rattle.fg_top.specs.Reads.{IsAskedBy, RunReads, RunReadsAll}
 use Rattle.fg_top.specs.Running.{RunComesTo}
+use Rattle.fg_top.specs.Stats.{CallEndsWithStats, CountsRun, LeavesStats, WishComesWithStats, asked}
 use Rattle.fg_top.specs.Statuses.{CameToEnd, RefusedDrives, Succeeded}
 use Rattle.fg_top.specs.Tallies.{RoseByWish, Stood, begins_of}
 
@@ -25,14 +27,15 @@ pub record OpeningRefused {D : Type 0} (told : D → ℕ) (olds news : List D) :
   pub of_drives : RefusedDrives (status_of refusal)
   pub by_told : RefusedTold told olds news refusal
 
--- a run over drives that were opened so, behind its head: they are only read, it ends by what it comes to, and the tally rises with
--- what ran
-pub record RunsOpened {D : Type 0} (wish : Wish) (opened : Opened) (tells : DriveGhosts D) (olds news : List D) (output : Output) (counted : Tallied) (status : ℕ) : Type 0 where
+-- a run over drives that were opened so, behind its head: they are only read, it ends by what it comes to, with stats where they are
+-- asked for, and the tally rises with what ran
+pub record RunsOpened {D : Type 0} (is_asked : Bool) (wish : Wish) (opened : Opened) (tells : DriveGhosts D) (olds news : List D) (output : Output) (counted : Tallied) (status : ℕ) : Type 0 where
   pub held : EachSame tells.held olds news
   pub sure : RoomyKept tells.room tells.faults olds news
   pub reads : IfSome (all_told tells.held olds) (λ helds. LogsGrewBy (IsAskedBy wish helds (Ok opened)) tells.log olds news)
-  pub ends : Ends tells.faults olds news (RunComesTo (rules_of wish.pick) wish (all_told tells.held olds) (run_on wish opened))
-      (LeavesHeld tells.held olds news) output status
+  pub stats : Stats
+  pub ends : Ends tells.faults olds news (RunComesTo (rules_of wish.pick) wish (asked is_asked stats) (all_told tells.held olds) (run_on wish opened))
+      (LeavesStats tells.held olds news is_asked (CountsRun stats tells.log olds news counted)) output status
   pub tally : Succeeded status → IfSome (all_told tells.held olds) (λ helds. RoseByRun (run_on wish opened helds) counted)
   pub tally_went : IfSome (all_told tells.held olds) (λ helds. RoseWithin (CameToEnd status) (begun_of (run_on wish opened helds)) counted)
   pub began : RefusedDrives status → ⊥
@@ -59,13 +62,14 @@ counts_run wish = record {
   stands = λ status tally. RefusedDrives status → Stood tally;
 }
 
--- the promise
-abbrev pub run_promise : {D : Type 0} → Wish → Promise D
-run_promise {D} wish =
-    let other : Promise D = alone (λ call. WishComesTo wish (told_by call)) in
+-- the promise, with stats where they are asked for
+abbrev pub run_promise : {D : Type 0} → Bool → Wish → Promise D
+run_promise {D} is_asked wish =
+    let other : Promise D = alone (λ call. WishComesWithStats is_asked wish (told_by call)) in
     record other {
       of_drives = opens;
       of_reads = reads_asked wish;
       of_tally = counts_run wish;
+      of_stats = CallEndsWithStats is_asked wish;
       means = λ helds. MeansWish wish (held_graph helds);
     }

@@ -7,14 +7,14 @@ use Rattle.fg_model.specs.declared.run.End.{End}
 use Rattle.fg_model.specs.declared.run.RunFault.{RunFault}
 use Rattle.fg_model.specs.Program.{Rules}
 use Rattle.fg_model.specs.Run.{Run}
-use Rattle.fg_report.specs.Lines.{end_line}
 use Rattle.fg_report.specs.Refusals.{refusal_line}
 use Rattle.fg_words.specs.declared.jobs.JobFault.{JobFault}
 use Rattle.fg_words.specs.declared.jobs.Pick.{Pick}
+use Rattle.fg_top.specs.declared.stats.Stats.{Stats}
 use Rattle.fg_top.specs.declared.wish.Wish.{Wish}
 use Rattle.fg_top.specs.Calls.{Output}
 use Rattle.fg_top.specs.Ends.{IsWritten}
-use Rattle.fg_top.specs.Outcome.{Close, Done, Outcome, Refuses, run_close, source_of, text_of, values_or_sum}
+use Rattle.fg_top.specs.Outcome.{Close, Done, HasStats, Outcome, Refuses, last_text, run_close, source_of, text_of}
 
 -- the refusal of words that give no job
 abbrev pub words_refusal : JobFault → Refusal
@@ -26,26 +26,26 @@ abbrev pub IsSourced : Pick → ℕ → Type 0
 IsSourced pick vertices = IfSome (source_of pick) (λ source. source < vertices)
 
 -- what a run of these rules comes to behind its head
-abbrev pub behind_head : Rules → Wish → Run → Outcome
-behind_head rules wish run = record {
+abbrev pub behind_head : Rules → Wish → Option Stats → Run → Outcome
+behind_head rules wish stats run = record {
   lines = map (text_of wish.each rules.show) run.finished;
-  close = run_close wish.quiet rules.show run.ending run.iterations run.states;
+  close = run_close stats wish.quiet rules.show run.ending run.iterations run.states;
 }
 
--- how a run may close behind its head where nothing is told of it: done, or refused for a bad edge
-abbrev pub MayClose : Close → Type 0
-MayClose (Done text) = Unit {0}
-MayClose (Refuses (Refusal.BadEdge bad)) = Unit {0}
-MayClose (Refuses refusal) = ⊥
+-- how a run may close behind its head where nothing is told of it: done with these stats, or refused for a bad edge
+abbrev pub MayClose : Option Stats → Close → Type 0
+MayClose stats (Done text) = HasStats stats text
+MayClose stats (Refuses (Refusal.BadEdge bad)) = Unit {0}
+MayClose stats (Refuses refusal) = ⊥
 
--- behind its head the run comes to this outcome, by what is told of it
-abbrev pub RunComesTo : {A : Type 0} → Rules → Wish → Option A → (A → Run) → Outcome → Type 0
-RunComesTo rules wish None run_of outcome = MayClose outcome.close
-RunComesTo rules wish (Some told) run_of outcome = outcome ≡ behind_head rules wish (run_of told)
+-- behind its head the run comes with these stats to this outcome, by what is told of it
+abbrev pub RunComesTo : {A : Type 0} → Rules → Wish → Option Stats → Option A → (A → Run) → Outcome → Type 0
+RunComesTo rules wish stats None run_of outcome = MayClose stats outcome.close
+RunComesTo rules wish stats (Some told) run_of outcome = outcome ≡ behind_head rules wish stats (run_of told)
 
 -- the last text of a run with an end
-abbrev pub last_text : Bool → (VState → Value) → End → List ℕ
-last_text quiet show end = end_line end.settled end.iterations ++ values_or_sum quiet show end.states
+abbrev pub end_text : Option Stats → Bool → (VState → Value) → End → List ℕ
+end_text stats quiet show end = last_text stats quiet show end.settled end.iterations end.states
 
 -- nothing more was written, since a put failed
 pub record IsGivenUp (output : Output) (status : ℕ) : Type 0 where
@@ -61,6 +61,6 @@ IsRunRefused output (RunFault.BadEdge bad) status = IsWritten output (Some (Refu
 IsRunRefused output RunFault.Watch status = IsGivenUp output status
 
 -- what is written behind the iterations of a run: the last text, or the refusal of its fault
-abbrev pub IsClosed : Bool → (VState → Value) → Output → Result End RunFault → ℕ → Type 0
-IsClosed quiet show output (Ok end) status = IsWritten output None (last_text quiet show end) status
-IsClosed quiet show output (Err fault) status = IsRunRefused output fault status
+abbrev pub IsClosed : Option Stats → Bool → (VState → Value) → Output → Result End RunFault → ℕ → Type 0
+IsClosed stats quiet show output (Ok end) status = IsWritten output None (end_text stats quiet show end) status
+IsClosed stats quiet show output (Err fault) status = IsRunRefused output fault status

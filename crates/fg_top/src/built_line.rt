@@ -82,7 +82,7 @@ fn write_line<K: Sink>(out: &mut K, edges: &Edges, pages: u32, drives: u32) -> R
 }
 
 /// Writes the same line as the last of a job's text, and hands on all that the output gathered.
-#[tactic(auto, using(crate::proofs::FlushLemmas::whole_is_part))]
+#[tactic(auto, using(fg_report::proofs::FlushLemmas::whole_is_part))]
 pub fn write_built<K: Sink>(
     out: &mut K,
     edges: &Edges,

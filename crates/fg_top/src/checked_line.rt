@@ -27,7 +27,7 @@ fn write_line<K: Sink>(out: &mut K, opened: &Opened) -> Result<(), Failed>
 }
 
 /// Writes the same line as the last of a job's text, and hands on all that the output gathered.
-#[tactic(auto, using(crate::proofs::FlushLemmas::whole_is_part))]
+#[tactic(auto, using(fg_report::proofs::FlushLemmas::whole_is_part))]
 pub fn write_checked<K: Sink>(out: &mut K, opened: &Opened) -> Result<(), Failed>
     ensures whole { OnOk result (K.written out.new ≡ grown (K.written out.old) (checked_line opened.now)) }
     ensures part { OnErr result (GrewByFirst (checked_line opened.now) (K.written out.old) (K.written out.new)) }

@@ -210,39 +210,53 @@ fn reads_pages_beside_each_other_at_once(rt: HostRuntime) -> Result<(), Fail> {
     Ok(())
 }
 
-/// Runs of two workers, each of which reads while the other does. In the first each drive's third read, the first of the run,
-/// waits for the other's. In the second all vertices with entries are of the first worker, whose first read waits until the
-/// other worker has read the lists that it took over.
+/// A run of two workers, each of which reads while the other does: each drive's third read, the first of the run, waits for the
+/// other's.
+const TOGETHER: Run = Run {
+    build: "build --unit 1 D0 D1",
+    edges: "",
+    fans: &[(0, 1024), (1, 1024)],
+    waits: &[(3, 3), (3, 3)],
+    line: "run --program rank --workers 2 --shift 0 --quiet D0 D1",
+    lines: &[
+        "program rank vertices 1024 out 2048 in 2048\n",
+        "iteration 0 phase 0 active 1024 messages 2048\n",
+        "settled 1\n",
+        "sum 161060864\n",
+    ],
+    tally: (1024, 2048),
+    ..RUN
+};
+
+/// Another, where all vertices with entries are of the first worker, whose first read waits until the other worker has read the
+/// lists that it took over.
+const STOLEN: Run = Run {
+    build: "build --unit 4 D0 D1",
+    edges: "",
+    fans: &[(0, 3072), (2, 1024), (4, 1024), (6, 1024), (8, 1024)],
+    waits: &[(4, 6), (0, 0)],
+    line: "run --program rank --workers 2 --shift 0 --quiet D0 D1",
+    lines: &[
+        "program rank vertices 3072 out 7168 in 7168\n",
+        "iteration 0 phase 0 active 3072 messages 7168\n",
+        "settled 1\n",
+        "sum 483182592\n",
+    ],
+    tally: (3072, 7168),
+    ..RUN
+};
+
+/// Both, also with queues of one load.
 const GATES: &[Run] = &[
+    TOGETHER,
     Run {
-        build: "build --unit 1 D0 D1",
-        edges: "",
-        fans: &[(0, 1024), (1, 1024)],
-        waits: &[(3, 3), (3, 3)],
-        line: "run --program rank --workers 2 --shift 0 --quiet D0 D1",
-        lines: &[
-            "program rank vertices 1024 out 2048 in 2048\n",
-            "iteration 0 phase 0 active 1024 messages 2048\n",
-            "settled 1\n",
-            "sum 161060864\n",
-        ],
-        tally: (1024, 2048),
-        ..RUN
+        line: "run --program rank --workers 2 --shift 0 --depth 1 --quiet D0 D1",
+        ..TOGETHER
     },
+    STOLEN,
     Run {
-        build: "build --unit 4 D0 D1",
-        edges: "",
-        fans: &[(0, 3072), (2, 1024), (4, 1024), (6, 1024), (8, 1024)],
-        waits: &[(4, 6), (0, 0)],
-        line: "run --program rank --workers 2 --shift 0 --quiet D0 D1",
-        lines: &[
-            "program rank vertices 3072 out 7168 in 7168\n",
-            "iteration 0 phase 0 active 3072 messages 7168\n",
-            "settled 1\n",
-            "sum 483182592\n",
-        ],
-        tally: (3072, 7168),
-        ..RUN
+        line: "run --program rank --workers 2 --shift 0 --depth 1 --quiet D0 D1",
+        ..STOLEN
     },
 ];
 

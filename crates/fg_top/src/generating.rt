@@ -14,7 +14,7 @@ use fg_outside::Sink;
 use fg_text::generate;
 
 /// Writes the text of so many generated edges between so many vertices, and hands on all that the output gathered.
-#[tactic(auto, using(crate::proofs::FlushLemmas::whole_is_part))]
+#[tactic(auto, using(fg_report::proofs::FlushLemmas::whole_is_part))]
 fn write_generated<K: Sink>(start: u64, nodes: u32, edges: u32, out: &mut K) -> Result<(), Failed>
     requires some_nodes { 1 ≤ nodes }
     requires few_nodes { nodes ≤ MAX_VERTICES }

@@ -1,6 +1,6 @@
 //! The work of a run over the whole graph in memory.
 
-ghost use Rattle.std.specs.Prelude.{◌≡◌, ◌≤◌, ◌≢◌, IfErr, IfOk, IfSome, OnOk, Some, length};
+ghost use Rattle.std.specs.Prelude.{◌≡◌, ◌≤◌, ◌≢◌, IfErr, IfOk, IfSome, None, OnOk, Some, length};
 ghost use Rattle.fg_base.specs.Refusal.{status_of};
 ghost use Rattle.fg_base.specs.declared.limits.TheConstants.{MAX_DRIVES};
 ghost use Rattle.fg_base.specs.declared.refusal.Refusal.TheVariants.{OutputFault as output_fault};
@@ -69,7 +69,7 @@ fn report_run<P: Program, K: Sink>(
     requires within { IsWithinLimits graph.now }
     ensures began { result ≢ 7 }
     ensures ends { EndsAlone
-        (RunComesTo (rules_of wish.pick) wish (Some graph.now) (run_in wish))
+        (RunComesTo (rules_of wish.pick) wish None (Some graph.now) (run_in wish))
         (output_between K.Sink out.old out.new) result }
 {
     let mut watch = ReportWatch {
@@ -79,7 +79,7 @@ fn report_run<P: Program, K: Sink>(
     };
     let mut tally = Count::new();
     let answer = plain_run(alloc, graph, program, wish.max, &mut watch, &mut tally);
-    close_run(watch.out, program, wish.quiet, answer)
+    close_run(watch.out, program, wish.quiet, None, answer)
 }
 
 /// The same of whichever program is picked.
@@ -87,7 +87,7 @@ fn run_picked<K: Sink>(alloc: Global, wish: Wish, graph: &Graph, out: &mut K) ->
     requires { IsWithinLimits graph.now }
     ensures began { result ≢ 7 }
     ensures ends { EndsAlone
-        (RunComesTo (rules_of wish.pick) wish (Some graph.now) (run_in wish))
+        (RunComesTo (rules_of wish.pick) wish None (Some graph.now) (run_in wish))
         (output_between K.Sink out.old out.new) result }
 {
     with_picked!(wish.pick, program => report_run(alloc, &program, wish, graph, out))
@@ -104,10 +104,10 @@ fn load<D: Drive>(alloc: Global, wish: Wish, drives: &mut Vec<D>) -> Result<Load
     requires some { 1 ≤ length drives.old.items }
     requires few { length drives.old.items ≤ MAX_DRIVES }
     ensures outcome { IfOk result (λ loaded. IfSome (all_told D.held drives.old.items)
-        (λ helds. outcome_of wish helds ≡ run_outcome wish (head_of wish.pick loaded.header) (run_in wish loaded.graph))) }
+        (λ helds. outcome_of wish None helds ≡ run_outcome wish None (head_of wish.pick loaded.header) (run_in wish loaded.graph))) }
     ensures within { IfOk result (λ loaded. IsWithinLimits loaded.graph) }
     ensures kept { OnOk result (NoneRose D.faults drives.old.items drives.new.items) }
-    ensures cause { IfErr result (λ refusal. IsCause D.faults drives.old.items drives.new.items (WishComesTo wish (all_told D.held drives.old.items))
+    ensures cause { IfErr result (λ refusal. IsCause D.faults drives.old.items drives.new.items (WishComesTo wish None (all_told D.held drives.old.items))
         (Some refusal) (refusal_line refusal)) }
     ensures not_output { IfErr result (λ refusal. refusal ≢ output_fault) }
     ensures told_err { IfErr result (λ refusal. status_of refusal ≡ 7 → RefusedTold D.told drives.old.items drives.new.items refusal) }
@@ -137,7 +137,7 @@ pub fn ref_job<D: Drive, K: Sink>(alloc: Global, wish: Wish, drives: &mut Vec<D>
     requires some { 1 ≤ length drives.old.items }
     requires few { length drives.old.items ≤ MAX_DRIVES }
     ensures ends { Ends D.faults drives.old.items drives.new.items
-        (WishComesTo wish (all_told D.held drives.old.items))
+        (WishComesTo wish None (all_told D.held drives.old.items))
         (LeavesHeld D.held drives.old.items drives.new.items)
         (output_between K.Sink out.old out.new) result }
     ensures drives { EachSame D.held drives.old.items drives.new.items }

@@ -131,5 +131,5 @@ pub fn large_job<R: Threads + Wait + Sync, K: Sink, T: Tally + Send>(
         Ok(drives) => drives,
         Err(refusal) => return refuse(out, refusal),
     };
-    run_job(rt, alloc, wish, engine, &mut drives, out, tally)
+    run_job(rt, alloc, wish, engine, false, &mut drives, out, tally)
 }

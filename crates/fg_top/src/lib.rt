@@ -22,6 +22,8 @@ mod engine;
 mod engine_tests;
 #[cfg(test)]
 mod fault_tests;
+#[cfg(test)]
+mod flush_tests;
 mod generating;
 mod in_memory;
 #[cfg(test)]
@@ -31,6 +33,9 @@ mod opening;
 mod picked;
 mod report;
 mod run;
+mod stats;
+#[cfg(test)]
+mod stats_tests;
 mod still_jobs;
 #[cfg(test)]
 mod test_calls;
@@ -75,6 +80,10 @@ pub fn flash<R: Wait + Threads + Sync, S: Source, D: Drive + Send, K: Sink, T: T
         (call_of D.Drive S.Source K.Sink drives.old.items drives.new.items input.old input.new out.old out.new result) }
     // With what the job ran on drives the tally rose, and with nothing else.
     ensures tally { Tallies (promised words.now.items) D.Drive drives.old.items (tally_between T.Tally tally.old tally.new) result }
+    // The stats that were printed count what was read of the drives once they were opened, and by how much the tally rose.
+    ensures stats { (promised words.now.items).of_stats
+        (call_of D.Drive S.Source K.Sink drives.old.items drives.new.items input.old input.new out.old out.new result)
+        (tally_between T.Tally tally.old tally.new) }
 {
     let job = match job(alloc, words) {
         Ok(job) => job,
@@ -89,10 +98,11 @@ pub fn flash<R: Wait + Threads + Sync, S: Source, D: Drive + Send, K: Sink, T: T
             max,
             each,
             quiet,
+            stats,
             ..
         } => {
             let wish = Wish::new(pick, max, each, quiet);
-            run_job(rt, alloc, wish, engine, drives, out, tally)
+            run_job(rt, alloc, wish, engine, stats, drives, out, tally)
         }
         Job::Large {
             pick,

@@ -1,6 +1,6 @@
 //! The drives of a job are opened, and its source is looked at.
 
-ghost use Rattle.std.specs.Prelude.{◌≡◌, ◌≢◌, ◌≤◌, [], None, Ok, Some, IfErr, IfOk, IfSome, MatchOption, OnOk, length};
+ghost use Rattle.std.specs.Prelude.{◌≡◌, ◌≢◌, ◌≤◌, [], None, Ok, Some, IfErr, IfOk, IfSome, MatchOption, OnOk, Option, length};
 ghost use Rattle.fg_base.specs.Refusal.{status_of};
 ghost use Rattle.fg_base.specs.declared.limits.TheConstants.{MAX_DRIVES};
 ghost use Rattle.fg_base.specs.declared.refusal.Refusal.TheVariants.{OutputFault as output_fault};
@@ -15,6 +15,7 @@ ghost use Rattle.fg_top.specs.Meaning.{MeansWish};
 ghost use Rattle.fg_top.specs.Outcome.{WishComesTo, held_graph, source_of};
 ghost use Rattle.fg_top.specs.Running.{IsSourced};
 ghost use Rattle.fg_top.specs.Tallies.{begins_of};
+ghost use Rattle.fg_top.specs.declared.stats.Stats.{Stats};
 
 use crate::wish::Wish;
 use fg_base::Refusal;
@@ -60,8 +61,8 @@ pub fn open_sourced<D: Drive>(
     ensures told { IfOk result (λ opened. HoldWhole D.told opened.layout drives.new.items) }
     ensures sourced { IfOk result (λ opened. IsSourced wish.pick opened.header.n) }
     ensures kept { OnOk result (NoneRose D.faults drives.old.items drives.new.items) }
-    ensures cause { IfErr result (λ refusal. IsCause D.faults drives.old.items drives.new.items (WishComesTo wish (all_told D.held drives.old.items))
-        (Some refusal) (refusal_line refusal)) }
+    ensures cause { IfErr result (λ refusal. (stats : Option Stats) → IsCause D.faults drives.old.items drives.new.items
+        (WishComesTo wish stats (all_told D.held drives.old.items)) (Some refusal) (refusal_line refusal)) }
     ensures not_output { IfErr result (λ refusal. refusal ≢ output_fault) }
     ensures told_err { IfErr result (λ refusal. status_of refusal ≡ 7 → RefusedTold D.told drives.old.items drives.new.items refusal) }
     ensures unbegun { IfErr result (λ refusal. status_of refusal ≡ 8 →

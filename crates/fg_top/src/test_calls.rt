@@ -81,7 +81,7 @@ pub(crate) const COMPONENTS: Lines = &[
 ];
 
 /// The words of a line, between single spaces.
-fn words(alloc: Global, line: &str) -> Result<Vec<String>, AllocError> {
+pub(crate) fn words(alloc: Global, line: &str) -> Result<Vec<String>, AllocError> {
     let mut words = Vec::new(alloc);
     for word in line.split(' ') {
         words.push(String::from_str(alloc, word)?)?;
@@ -138,7 +138,7 @@ pub(crate) fn call<R: Wait + Threads + Sync + Abort, D: Drive + Send>(
 }
 
 /// Whether these lines are the text, one behind the other.
-fn is_text(text: &[u8], lines: &[&str]) -> bool {
+pub(crate) fn is_text(text: &[u8], lines: &[&str]) -> bool {
     let mut rest = text;
     for line in lines {
         let Some(behind) = rest.strip_prefix(line.as_bytes()) else {

@@ -2,7 +2,7 @@
 -- order among the faults.
 use Rattle.std.proofs.Common.{◌≡◌, true, false, Ok, Err, codes, refl}
 use Rattle.clap.proofs.OnLiterals.{clap_on_literals}
-use Rattle.fg_base.specs.declared.refusal.Opt.TheVariants.{Source, Max, Quiet, Workers, Sets, Ways, Depth, Shift, Helpers, Unit as UnitPages, Drive}
+use Rattle.fg_base.specs.declared.refusal.Opt.TheVariants.{Source, Max, Quiet, Workers, Sets, Ways, Depth, Shift, Helpers, Stats, Unit as UnitPages, Drive}
 use Rattle.fg_base.specs.declared.refusal.WordFault.TheVariants.{Parse, Extra, Missing, Range}
 use Rattle.fg_words.specs.declared.jobs.Job.TheVariants.{Run, Large}
 use Rattle.fg_words.specs.declared.jobs.Pick.TheVariants.{Bfs, Wcc}
@@ -12,11 +12,11 @@ use Rattle.fg_words.proofs.Rows.{line}
 
 -- Each number at its least and at its most, and just outside.
 
-one_worker : job_of (line (codes "run --program bfs --source 0 --workers 1 D")) ≡ Ok (Run (Bfs 0) 4294967295 false false 1 64 8 64 10 false)
+one_worker : job_of (line (codes "run --program bfs --source 0 --workers 1 D")) ≡ Ok (Run (Bfs 0) 4294967295 false false 1 64 8 64 10 false false)
 unfolding grammar is_read read clap_on_literals
 one_worker = refl
 
-most_workers : job_of (line (codes "run --program bfs --source 0 --workers 64 D")) ≡ Ok (Run (Bfs 0) 4294967295 false false 64 64 8 64 10 false)
+most_workers : job_of (line (codes "run --program bfs --source 0 --workers 64 D")) ≡ Ok (Run (Bfs 0) 4294967295 false false 64 64 8 64 10 false false)
 unfolding grammar is_read read clap_on_literals
 most_workers = refl
 
@@ -28,11 +28,11 @@ too_many_workers : job_of (line (codes "run --program bfs --source 0 --workers 6
 unfolding grammar is_read read clap_on_literals
 too_many_workers = refl
 
-one_set : job_of (line (codes "run --program bfs --source 0 --sets 1 D")) ≡ Ok (Run (Bfs 0) 4294967295 false false 4 1 8 64 10 false)
+one_set : job_of (line (codes "run --program bfs --source 0 --sets 1 D")) ≡ Ok (Run (Bfs 0) 4294967295 false false 4 1 8 64 10 false false)
 unfolding grammar is_read read clap_on_literals
 one_set = refl
 
-most_sets : job_of (line (codes "run --program bfs --source 0 --sets 262144 --ways 1 D")) ≡ Ok (Run (Bfs 0) 4294967295 false false 4 262144 1 64 10 false)
+most_sets : job_of (line (codes "run --program bfs --source 0 --sets 262144 --ways 1 D")) ≡ Ok (Run (Bfs 0) 4294967295 false false 4 262144 1 64 10 false false)
 unfolding grammar is_read read clap_on_literals
 most_sets = refl
 
@@ -44,11 +44,11 @@ too_many_sets : job_of (line (codes "run --program bfs --source 0 --sets 262145 
 unfolding grammar is_read read clap_on_literals
 too_many_sets = refl
 
-one_way : job_of (line (codes "run --program bfs --source 0 --ways 1 D")) ≡ Ok (Run (Bfs 0) 4294967295 false false 4 64 1 64 10 false)
+one_way : job_of (line (codes "run --program bfs --source 0 --ways 1 D")) ≡ Ok (Run (Bfs 0) 4294967295 false false 4 64 1 64 10 false false)
 unfolding grammar is_read read clap_on_literals
 one_way = refl
 
-most_ways : job_of (line (codes "run --program bfs --source 0 --ways 16 D")) ≡ Ok (Run (Bfs 0) 4294967295 false false 4 64 16 64 10 false)
+most_ways : job_of (line (codes "run --program bfs --source 0 --ways 16 D")) ≡ Ok (Run (Bfs 0) 4294967295 false false 4 64 16 64 10 false false)
 unfolding grammar is_read read clap_on_literals
 most_ways = refl
 
@@ -60,11 +60,11 @@ too_many_ways : job_of (line (codes "run --program bfs --source 0 --ways 17 D"))
 unfolding grammar is_read read clap_on_literals
 too_many_ways = refl
 
-depth_of_one : job_of (line (codes "run --program bfs --source 0 --depth 1 D")) ≡ Ok (Run (Bfs 0) 4294967295 false false 4 64 8 1 10 false)
+depth_of_one : job_of (line (codes "run --program bfs --source 0 --depth 1 D")) ≡ Ok (Run (Bfs 0) 4294967295 false false 4 64 8 1 10 false false)
 unfolding grammar is_read read clap_on_literals
 depth_of_one = refl
 
-most_depth : job_of (line (codes "run --program bfs --source 0 --depth 1024 D")) ≡ Ok (Run (Bfs 0) 4294967295 false false 4 64 8 1024 10 false)
+most_depth : job_of (line (codes "run --program bfs --source 0 --depth 1024 D")) ≡ Ok (Run (Bfs 0) 4294967295 false false 4 64 8 1024 10 false false)
 unfolding grammar is_read read clap_on_literals
 most_depth = refl
 
@@ -76,11 +76,11 @@ too_deep : job_of (line (codes "run --program bfs --source 0 --depth 1025 D")) �
 unfolding grammar is_read read clap_on_literals
 too_deep = refl
 
-shift_of_none : job_of (line (codes "run --program bfs --source 0 --shift 0 D")) ≡ Ok (Run (Bfs 0) 4294967295 false false 4 64 8 64 0 false)
+shift_of_none : job_of (line (codes "run --program bfs --source 0 --shift 0 D")) ≡ Ok (Run (Bfs 0) 4294967295 false false 4 64 8 64 0 false false)
 unfolding grammar is_read read clap_on_literals
 shift_of_none = refl
 
-most_shift : job_of (line (codes "run --program bfs --source 0 --shift 16 D")) ≡ Ok (Run (Bfs 0) 4294967295 false false 4 64 8 64 16 false)
+most_shift : job_of (line (codes "run --program bfs --source 0 --shift 16 D")) ≡ Ok (Run (Bfs 0) 4294967295 false false 4 64 8 64 16 false false)
 unfolding grammar is_read read clap_on_literals
 most_shift = refl
 
@@ -92,7 +92,7 @@ too_far : job_of (line (codes "run --program bfs --source 0 --shift 17 D")) ≡ 
 unfolding grammar is_read read clap_on_literals
 too_far = refl
 
-helpers_of_a_run : job_of (line (codes "run --helpers --program bfs --source 0 D")) ≡ Ok (Run (Bfs 0) 4294967295 false false 4 64 8 64 10 true)
+helpers_of_a_run : job_of (line (codes "run --helpers --program bfs --source 0 D")) ≡ Ok (Run (Bfs 0) 4294967295 false false 4 64 8 64 10 true false)
 unfolding grammar is_read read clap_on_literals
 helpers_of_a_run = refl
 
@@ -108,13 +108,13 @@ workers_twice : job_of (line (codes "run --workers 1 --workers=1 --program bfs -
 unfolding grammar is_read read clap_on_literals
 workers_twice = refl
 
-whole_engine : job_of (line (codes "run --shift 2 --depth=3 --helpers --ways 5 --program bfs --sets=7 --source 0 --workers 11 D")) ≡ Ok (Run (Bfs 0) 4294967295 false false 11 7 5 3 2 true)
+whole_engine : job_of (line (codes "run --shift 2 --depth=3 --helpers --ways 5 --program bfs --sets=7 --source 0 --workers 11 D")) ≡ Ok (Run (Bfs 0) 4294967295 false false 11 7 5 3 2 true false)
 unfolding grammar is_read read clap_on_literals
 whole_engine = refl
 
 -- Sets times ways are 262144 at most; ways count there in their range or not, unless they are no number.
 
-product_at_its_most : job_of (line (codes "run --program bfs --source 0 --sets 16384 --ways 16 D")) ≡ Ok (Run (Bfs 0) 4294967295 false false 4 16384 16 64 10 false)
+product_at_its_most : job_of (line (codes "run --program bfs --source 0 --sets 16384 --ways 16 D")) ≡ Ok (Run (Bfs 0) 4294967295 false false 4 16384 16 64 10 false false)
 unfolding grammar is_read read clap_on_literals
 product_at_its_most = refl
 
@@ -138,7 +138,7 @@ most_sets_of_ways_in_letters : job_of (line (codes "run --program bfs --source 0
 unfolding grammar is_read read clap_on_literals
 most_sets_of_ways_in_letters = refl
 
-sets_at_their_most_by_default_ways : job_of (line (codes "run --program bfs --source 0 --sets 32768 D")) ≡ Ok (Run (Bfs 0) 4294967295 false false 4 32768 8 64 10 false)
+sets_at_their_most_by_default_ways : job_of (line (codes "run --program bfs --source 0 --sets 32768 D")) ≡ Ok (Run (Bfs 0) 4294967295 false false 4 32768 8 64 10 false false)
 unfolding grammar is_read read clap_on_literals
 sets_at_their_most_by_default_ways = refl
 
@@ -260,6 +260,48 @@ product_of_a_large_run : job_of (line (codes "large --sets 32769 --program wcc -
 unfolding grammar is_read read clap_on_literals
 product_of_a_large_run = refl
 
-stats_are_not_built : job_of (line (codes "large --stats --program wcc --start 5 --nodes 6 --edges 7")) ≡ Err Parse
+-- A run over drives alone takes `stats`, behind `helpers` and before `unit`.
+
+stats_of_a_run : job_of (line (codes "run --stats --program bfs --source 0 D")) ≡ Ok (Run (Bfs 0) 4294967295 false false 4 64 8 64 10 false true)
 unfolding grammar is_read read clap_on_literals
-stats_are_not_built = refl
+stats_of_a_run = refl
+
+stats_with_a_value : job_of (line (codes "run --stats=1 --program bfs --source 0 D")) ≡ Err Parse
+unfolding grammar is_read read clap_on_literals
+stats_with_a_value = refl
+
+stats_twice : job_of (line (codes "run --stats --program bfs --source 0 D --stats")) ≡ Err Parse
+unfolding grammar is_read read clap_on_literals
+stats_twice = refl
+
+stats_of_a_run_in_memory : job_of (line (codes "ref --stats --program bfs --source 0 D")) ≡ Err (Extra Stats)
+unfolding grammar is_read read clap_on_literals
+stats_of_a_run_in_memory = refl
+
+stats_of_a_large_run : job_of (line (codes "large --stats --program wcc --start 5 --nodes 6 --edges 7")) ≡ Err (Extra Stats)
+unfolding grammar is_read read clap_on_literals
+stats_of_a_large_run = refl
+
+stats_of_a_build : job_of (line (codes "build --stats D")) ≡ Err (Extra Stats)
+unfolding grammar is_read read clap_on_literals
+stats_of_a_build = refl
+
+stats_of_a_check : job_of (line (codes "check --stats D")) ≡ Err (Extra Stats)
+unfolding grammar is_read read clap_on_literals
+stats_of_a_check = refl
+
+stats_of_generated_edges : job_of (line (codes "gen --stats --start 1 --nodes 1 --edges 1")) ≡ Err (Extra Stats)
+unfolding grammar is_read read clap_on_literals
+stats_of_generated_edges = refl
+
+helpers_before_stats : job_of (line (codes "ref --stats --helpers --program bfs --source 0 D")) ≡ Err (Extra Helpers)
+unfolding grammar is_read read clap_on_literals
+helpers_before_stats = refl
+
+stats_before_unit : job_of (line (codes "ref --unit 1 --stats --program bfs --source 0 D")) ≡ Err (Extra Stats)
+unfolding grammar is_read read clap_on_literals
+stats_before_unit = refl
+
+extra_unit_of_a_run_with_stats : job_of (line (codes "run --unit 1 --stats --program bfs --source 0 D")) ≡ Err (Extra UnitPages)
+unfolding grammar is_read read clap_on_literals
+extra_unit_of_a_run_with_stats = refl

@@ -98,16 +98,16 @@ picks command line needed none =
 -- They say how edges are generated where the command needs that.
 
 at_start : (p : Opt → Bool) → find p table ≡ None → p Start ≡ false
-at_start p none = clear_at p table 16 Start refl none
+at_start p none = clear_at p table 17 Start refl none
 
 at_nodes : (p : Opt → Bool) → find p table ≡ None → p Nodes ≡ false
-at_nodes p none = clear_at p table 17 Nodes refl none
+at_nodes p none = clear_at p table 18 Nodes refl none
 
 at_edges : (p : Opt → Bool) → find p table ≡ None → p Edges ≡ false
-at_edges p none = clear_at p table 18 Edges refl none
+at_edges p none = clear_at p table 19 Edges refl none
 
 at_drive : (p : Opt → Bool) → find p table ≡ None → p Drive ≡ false
-at_drive p none = clear_at p table 20 Drive refl none
+at_drive p none = clear_at p table 21 Drive refl none
 
 -- a value is there, within its range
 abbrev IsSaid : Said ℕ → Type 0

@@ -22,7 +22,7 @@ line (c ∷ rest) = spaced (c == 32) c (line rest)
 
 -- a run through the engine that the words say nothing of
 abbrev pub plain_run : Pick → ℕ → Bool → Bool → Job
-plain_run pick max each quiet = Run pick max each quiet 4 64 8 64 10 false
+plain_run pick max each quiet = Run pick max each quiet 4 64 8 64 10 false false
 
 -- Values behind `=` and behind their option's name, and options on either side of COMMAND and of drives.
 
@@ -204,7 +204,7 @@ equals_alone : job_of (line (codes "run --= D")) ≡ Err Parse
 unfolding grammar is_read read clap_on_literals
 equals_alone = refl
 
-option_that_is_not_built : job_of (line (codes "run --stats --program bfs --source 0 D")) ≡ Err Parse
+option_that_is_not_built : job_of (line (codes "run --steps --program bfs --source 0 D")) ≡ Err Parse
 unfolding grammar is_read read clap_on_literals
 option_that_is_not_built = refl
 

@@ -118,6 +118,7 @@ line_of rows = record {
   depth = number_in 1 1024 Depth rows;
   shift = number_in 0 16 Shift rows;
   helpers = is_some (value_of Helpers rows);
+  stats = is_some (value_of Stats rows);
   unit = number_in 1 256 UnitPages rows;
   number = number_in 0 18446744073709551615 Number rows;
   undirected = is_some (value_of Undirected rows);
@@ -143,7 +144,7 @@ is_given line Ways = is_there line.ways
 is_given line Depth = is_there line.depth
 is_given line Shift = is_there line.shift
 is_given line Helpers = line.helpers
-is_given line Stats = false
+is_given line Stats = line.stats
 is_given line UnitPages = is_there line.unit
 is_given line Number = is_there line.number
 is_given line Undirected = line.undirected
@@ -195,6 +196,11 @@ is_of_engines Shift = true
 is_of_engines Helpers = true
 is_of_engines _ = false
 
+-- what a run over drives takes and no other command does
+abbrev pub is_of_drive_runs : Opt → Bool
+is_of_drive_runs Stats = true
+is_of_drive_runs _ = false
+
 -- the options of a build
 abbrev pub is_of_builds : Opt → Bool
 is_of_builds UnitPages = true
@@ -234,7 +240,7 @@ is_the_drives _ = false
 -- the command takes the option
 abbrev pub is_taken_by : Command → Opt → Bool
 is_taken_by Build option = is_of_builds option
-is_taken_by Run option = is_of_runs option || is_of_engines option
+is_taken_by Run option = is_of_runs option || is_of_engines option || is_of_drive_runs option
 is_taken_by Ref option = is_of_runs option
 is_taken_by Check option = is_the_drives option
 is_taken_by Gen option = is_of_generating option

@@ -9,7 +9,7 @@ use Rattle.fg_words.specs.declared.jobs.Pick.TheVariants.{Bfs, Sssp, Wcc, Core, 
 -- the job never waits
 abbrev pub is_still : Job → Bool
 is_still (Build unit number undirected) = true
-is_still (Run pick max each quiet workers sets ways depth shift helpers) = false
+is_still (Run pick max each quiet workers sets ways depth shift helpers stats) = false
 is_still (Ref pick max each quiet) = true
 is_still Check = true
 is_still (Gen start nodes edges) = true
@@ -54,7 +54,7 @@ pub record IsEngine (workers sets ways depth shift : ℕ) : Type 0 where
 -- the job's numbers are within the limits
 abbrev pub JobFits : Job → Type 0
 JobFits (Build unit number undirected) = IsUnit unit
-JobFits (Run pick max each quiet workers sets ways depth shift helpers) = IsRun pick max × IsEngine workers sets ways depth shift
+JobFits (Run pick max each quiet workers sets ways depth shift helpers stats) = IsRun pick max × IsEngine workers sets ways depth shift
 JobFits (Ref pick max each quiet) = IsRun pick max
 JobFits Check = Unit {0}
 JobFits (Gen start nodes edges) = AreGenerable nodes edges
@@ -64,7 +64,7 @@ JobFits (Large pick max workers sets ways depth shift helpers unit undirected st
 -- so many drives are what the job works on: none where it makes its own, or none at all
 abbrev pub HasDrives : Job → ℕ → Type 0
 HasDrives (Build unit number undirected) count = AreDrives count
-HasDrives (Run pick max each quiet workers sets ways depth shift helpers) count = AreDrives count
+HasDrives (Run pick max each quiet workers sets ways depth shift helpers stats) count = AreDrives count
 HasDrives (Ref pick max each quiet) count = AreDrives count
 HasDrives Check count = AreDrives count
 HasDrives (Gen start nodes edges) count = count ≤ 0

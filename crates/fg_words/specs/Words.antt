@@ -52,7 +52,7 @@ build_from line = Job.Build (value_or line.unit 16) (value_or line.number 0) lin
 abbrev pub run_from : CommandLine → Pick → Job
 run_from line pick =
     Job.Run pick (value_or line.max 4294967295) line.each line.quiet (value_or line.workers 4) (value_or line.sets 64)
-    (value_or line.ways 8) (value_or line.depth 64) (value_or line.shift 10) line.helpers
+    (value_or line.ways 8) (value_or line.depth 64) (value_or line.shift 10) line.helpers line.stats
 
 abbrev pub ref_from : CommandLine → Pick → Job
 ref_from line pick = Job.Ref pick (value_or line.max 4294967295) line.each line.quiet

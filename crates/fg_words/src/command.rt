@@ -1,7 +1,7 @@
 //! The commands and the vertex programs by their names, with the options that each takes and needs.
 
 ghost use Rattle.std.specs.Prelude.{◌≡◌};
-ghost use Rattle.fg_words.specs.CommandLine.{command_of, program_of, is_of_engines, is_of_runs, is_of_large_runs};
+ghost use Rattle.fg_words.specs.CommandLine.{command_of, program_of, is_of_drive_runs, is_of_engines, is_of_runs, is_of_large_runs};
 ghost use Rattle.fg_words.specs.CommandLine.{is_taken_by, is_needed_by, has_use_for, depends_on};
 
 use fg_base::Opt;
@@ -35,6 +35,13 @@ fn is_of_engines(option: Opt) -> bool
         option,
         Opt::Workers | Opt::Sets | Opt::Ways | Opt::Depth | Opt::Shift | Opt::Helpers
     )
+}
+
+/// Whether a run over drives takes the option, and no other command does.
+fn is_of_drive_runs(option: Opt) -> bool
+    ensures { result ≡ is_of_drive_runs option }
+{
+    option == Opt::Stats
 }
 
 /// Whether a run on generated edges takes the option, beside those of the engine.
@@ -81,7 +88,9 @@ impl Command {
                 option,
                 Opt::Unit | Opt::Number | Opt::Undirected | Opt::Input | Opt::Drive
             ),
-            Command::Run => is_of_runs(option) || is_of_engines(option),
+            Command::Run => {
+                is_of_runs(option) || is_of_engines(option) || is_of_drive_runs(option)
+            }
             Command::Ref => is_of_runs(option),
             Command::Check => option == Opt::Drive,
             Command::Gen => matches!(option, Opt::Start | Opt::Nodes | Opt::Edges),

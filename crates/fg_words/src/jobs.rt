@@ -47,6 +47,8 @@ pub enum Job {
         shift: u32,
         /// Whether each drive has a thread of its own that reads it, beside the workers.
         helpers: bool,
+        /// Whether a line is printed of what was read and run.
+        stats: bool,
     },
     /// The same on a graph that is read whole into memory first.
     Ref {

@@ -6,7 +6,7 @@ ghost use Rattle.fg_words.specs.Options.{is_flag, options, table};
 use fg_base::Opt;
 
 /// The options, and the drives behind them, in the order in which refusals look at them.
-pub(crate) static TABLE: [Opt; 21] = [
+pub(crate) static TABLE: [Opt; 22] = [
     Opt::Program,
     Opt::Source,
     Opt::Max,
@@ -19,6 +19,7 @@ pub(crate) static TABLE: [Opt; 21] = [
     Opt::Depth,
     Opt::Shift,
     Opt::Helpers,
+    Opt::Stats,
     Opt::Unit,
     Opt::Number,
     Opt::Undirected,
@@ -43,6 +44,6 @@ pub(crate) fn is_flag(option: Opt) -> bool
 {
     matches!(
         option,
-        Opt::Each | Opt::Quiet | Opt::Helpers | Opt::Undirected
+        Opt::Each | Opt::Quiet | Opt::Helpers | Opt::Stats | Opt::Undirected
     )
 }

@@ -25,6 +25,7 @@ const RUN: Job = Job::Run {
     depth: 64,
     shift: 10,
     helpers: false,
+    stats: false,
 };
 
 #[test]
@@ -42,7 +43,7 @@ fn takes_both_forms_of_an_option_on_either_side_of_a_drive(rt: HostRuntime) -> R
 #[test]
 fn takes_what_is_said_of_the_engine(rt: HostRuntime) -> Result<(), Fail> {
     let words_of_run =
-        "run --shift 2 --depth=3 --helpers --ways 5 --program wcc --sets=7 --workers 11 D";
+        "run --shift 2 --depth=3 --helpers --ways 5 --stats --program wcc --sets=7 --workers 11 D";
     let line = words(rt.alloc(), words_of_run)?;
     let asked = Job::Run {
         pick: Pick::Wcc,
@@ -55,6 +56,7 @@ fn takes_what_is_said_of_the_engine(rt: HostRuntime) -> Result<(), Fail> {
         depth: 3,
         shift: 2,
         helpers: true,
+        stats: true,
     };
     assert_eq!(rt; job(rt.alloc(), &line), Ok(asked));
     Ok(())
@@ -85,6 +87,7 @@ fn refuses_with_the_cause(rt: HostRuntime) -> Result<(), Fail> {
         ("check", WordFault::Missing(Opt::Drive)),
         ("build --unit 257 D", WordFault::Range(Opt::Unit)),
         ("check --helpers D", WordFault::Extra(Opt::Helpers)),
+        ("ref --stats --program wcc D", WordFault::Extra(Opt::Stats)),
         (
             "run --program wcc --sets 262144 --ways 17 D",
             WordFault::Range(Opt::Sets),

@@ -15,8 +15,9 @@ use Rattle.fg_top.specs.LargeJob.{generated_graph, large_promise, recipe_for}
 use Rattle.fg_top.specs.RunJob.{run_promise}
 use Rattle.fg_top.specs.Statuses.{CameToEnd}
 use Rattle.fg_top.specs.Tallies.{RoseByWish, begins_of}
-use Rattle.fg_top.proofs.FlashLemmas.{always, drives_fit, keeps_large, takes_none, tally_still}
-use Rattle.fg_top.proofs.UnreadLemmas.{keeps_read, keeps_refused, tally_refused}
+use Rattle.fg_top.proofs.FlashLemmas.{always, drives_fit, keeps_large, stats_still, takes_none, tally_still}
+use Rattle.fg_top.proofs.StatsLemmas.{ends_held}
+use Rattle.fg_top.proofs.UnreadLemmas.{keeps_read, keeps_refused, stats_refused, tally_refused}
 use Rattle.fg_top.proofs.flash.Goals as goal
 
 pub returns-in-Err-clause-kept : goal.returns-in-Err-clause-kept
@@ -51,9 +52,10 @@ returns-in-Run-clause-kept g c =
     let call = call_of g.D.Drive g.S.Source g.K.Sink c.args.drives.now.items ran.new.drives.items input input c.args.out.now ran.new.out ran.result in
     let P : Result Job WordFault → Type 0 = λ given. Keeps (once_read (promise_by given)) call in
     let Q : Job → Type 0 = λ job. P (Ok job) in
-    let W : Wish → Type 0 = λ wish. Keeps (once_read (run_promise wish)) call in
+    let W : Wish → Type 0 = λ wish. Keeps (once_read (run_promise c.in-Run.stats wish)) call in
     subst P (sym c.in-Ok.ensures.job) (subst Q (sym c.in-Run.is) (subst W c.new-wish.ensures (record {
-      ends = all.ends;
+      ends = ends_held c.in-Run.stats c.new-wish.result g.D.Drive c.args.drives.now.items ran.new.drives.items (output_between g.K.Sink c.args.out.now ran.new.out)
+          (tally_between g.T.Tally c.args.tally.now ran.new.tally) ran.result all.ends;
       written = inl tt;
       drives = record { drives = all.drives; done = λ done. all.drives; undone = λ refused. all.drives; told = all.told; sure = all.sure };
       reads = record { reads = all.reads; all_read = all.all_read; logs = tt };
@@ -69,7 +71,7 @@ returns-in-Run-clause-tally g c =
     let tally = tally_between g.T.Tally c.args.tally.now ran.new.tally in
     let P : Result Job WordFault → Type 0 = λ given. KeepsTally (promise_by {D = g.row.D.Denot} given).of_tally told tally ran.result in
     let Q : Job → Type 0 = λ job. P (Ok job) in
-    let W : Wish → Type 0 = λ wish. KeepsTally (run_promise {D = g.row.D.Denot} wish).of_tally told tally ran.result in
+    let W : Wish → Type 0 = λ wish. KeepsTally (run_promise {D = g.row.D.Denot} c.in-Run.stats wish).of_tally told tally ran.result in
     subst P (sym c.in-Ok.ensures.job) (subst Q (sym c.in-Run.is) (subst W c.new-wish.ensures
     (record { risen = all.tally; went = all.tally_went; stood = all.tally_stands })))
 
@@ -107,6 +109,43 @@ returns-in-Large-clause-tally g c =
       went = always told (RoseWithin (CameToEnd ran.result) (begins_of wish graph) tally) all.tally_went;
       stood = all.tally_stands;
     })))
+
+pub returns-in-Err-clause-stats : goal.returns-in-Err-clause-stats
+returns-in-Err-clause-stats g c =
+    let output = output_between g.K.Sink c.args.out.now c.refuse.new.out in
+    let Is : Refusal → Type 0 = λ refusal. IsWritten output (Some refusal) (refusal_line refusal) c.refuse.result in
+    stats_refused (map string_bytes c.args.words.now.items) c.in-Err.fault g.D.Drive c.args.drives.now.items (g.S.Source.left c.args.input.now) (g.S.Source.faults c.args.input.now)
+    output c.refuse.result (tally_between g.T.Tally c.args.tally.now c.args.tally.now) c.in-Err.ensures.job (subst Is c.refusal_of_words.ensures.refusal c.refuse.ensures)
+
+pub returns-in_default-clause-stats : goal.returns-in_default-clause-stats
+returns-in_default-clause-stats g c =
+    let call = call_of g.D.Drive g.S.Source g.K.Sink c.args.drives.now.items c.still.new.drives.items c.args.input.now c.still.new.input c.args.out.now c.still.new.out c.still.result in
+    let tally = tally_between g.T.Tally c.args.tally.now c.args.tally.now in
+    let P : Result Job WordFault → Type 0 = λ given. (promise_by given).of_stats call tally in
+    let still : is_still c.in-Ok.job ≡ true = c.in_default.ensures in
+    subst P (sym c.in-Ok.ensures.job) (stats_still c.in-Ok.job call tally still)
+
+pub returns-in-Run-clause-stats : goal.returns-in-Run-clause-stats
+returns-in-Run-clause-stats g c =
+    let ran = c.run_job in
+    let input = c.args.input.now in
+    let call = call_of g.D.Drive g.S.Source g.K.Sink c.args.drives.now.items ran.new.drives.items input input c.args.out.now ran.new.out ran.result in
+    let tally = tally_between g.T.Tally c.args.tally.now ran.new.tally in
+    let P : Result Job WordFault → Type 0 = λ given. (promise_by given).of_stats call tally in
+    let Q : Job → Type 0 = λ job. P (Ok job) in
+    let W : Wish → Type 0 = λ wish. (run_promise c.in-Run.stats wish).of_stats call tally in
+    subst P (sym c.in-Ok.ensures.job) (subst Q (sym c.in-Run.is) (subst W c.new-wish.ensures ran.ensures.ends))
+
+pub returns-in-Large-clause-stats : goal.returns-in-Large-clause-stats
+returns-in-Large-clause-stats g c =
+    let ran = c.large_job in
+    let olds = c.args.drives.now.items in
+    let input = c.args.input.now in
+    let call = call_of g.D.Drive g.S.Source g.K.Sink olds olds input input c.args.out.now ran.new.out ran.result in
+    let tally = tally_between g.T.Tally c.args.tally.now ran.new.tally in
+    let P : Result Job WordFault → Type 0 = λ given. (promise_by given).of_stats call tally in
+    let Q : Job → Type 0 = λ job. P (Ok job) in
+    subst P (sym c.in-Ok.ensures.job) (subst Q (sym c.in-Large.is) tt)
 
 pub still-requires-clause-fits : goal.still-requires-clause-fits
 still-requires-clause-fits g c = c.in-Ok.ensures.fits

@@ -1,8 +1,12 @@
+use Rattle.std.proofs.Common.{None}
 use Rattle.fg_outside.specs.Drives.{all_told}
 use Rattle.fg_outside.proofs.DriveLemmas.{EachSame-more, RoomyKept-more, all_told-same}
 use Rattle.fg_top.proofs.JobLemmas.{ref_reads_all, ref_reads_first, ref_reads_some, runs_loaded}
 use Rattle.fg_top.proofs.OutcomeLemmas.{cause_of_reading, reading_not_held, reading_not_output}
 use Rattle.fg_top.proofs.in_memory.load.Goals as goal
+
+pub returns-in-Err-clause-cause : goal.returns-in-Err-clause-cause
+returns-in-Err-clause-cause g c = c.in-Err.ensures.cause None
 
 pub returns-in-Err-clause-reads : goal.returns-in-Err-clause-reads
 returns-in-Err-clause-reads g c =
@@ -12,7 +16,7 @@ pub returns-in-Ok-read_graph-clause-outcome : goal.returns-in-Ok-read_graph-clau
 returns-in-Ok-read_graph-clause-outcome g c =
     let olds = c.args.drives.now.items in
     let betweens = c.open_sourced.new.drives.items in
-    runs_loaded c.args.wish (all_told g.D.Drive.held olds) (all_told g.D.Drive.held betweens) c.in-Ok.opened c.in-Ok-read_graph.graph
+    runs_loaded c.args.wish None (all_told g.D.Drive.held olds) (all_told g.D.Drive.held betweens) c.in-Ok.opened c.in-Ok-read_graph.graph
     (all_told-same g.D.Drive.held olds betweens c.in-Ok.ensures.held) c.in-Ok.ensures.opening c.in-Ok.ensures.sourced c.in-Ok-read_graph.ensures.graph
 
 pub returns-in-Ok-read_graph-clause-kept : goal.returns-in-Ok-read_graph-clause-kept
@@ -39,7 +43,7 @@ returns-in-Ok-read_graph-clause-sure g c =
 
 pub returns-clause-cause : goal.returns-clause-cause
 returns-clause-cause g c =
-    cause_of_reading g.D.Drive.faults c.args.drives.now.items c.open_sourced.new.drives.items c.read_graph.new.drives.items c.args.wish
+    cause_of_reading g.D.Drive.faults c.args.drives.now.items c.open_sourced.new.drives.items c.read_graph.new.drives.items c.args.wish None
     (all_told g.D.Drive.held c.args.drives.now.items) c.in-Err-read_graph.refusal c.in-Ok.ensures.kept c.in-Err-read_graph.ensures.counts
 
 pub returns-clause-not_output : goal.returns-clause-not_output

@@ -1,3 +1,4 @@
+use Rattle.std.proofs.Common.{None}
 use Rattle.fg_outside.specs.Drives.{all_told}
 use Rattle.fg_report.specs.Refusals.{refusal_line}
 use Rattle.fg_top.specs.Calls.{output_between}
@@ -10,14 +11,14 @@ use Rattle.fg_top.proofs.in_memory.ref_job.Goals as goal
 pub returns-in-Err-write_head_of-clause-ends : goal.returns-in-Err-write_head_of-clause-ends
 returns-in-Err-write_head_of-clause-ends g c =
     let loaded = c.in-Ok.loaded in
-    ends_at_head g.D.Drive.faults c.args.drives.now.items c.load.new.drives.items c.args.wish (all_told g.D.Drive.held c.args.drives.now.items) loaded.header (λ helds. run_in c.args.wish loaded.graph)
+    ends_at_head g.D.Drive.faults c.args.drives.now.items c.load.new.drives.items c.args.wish None (all_told g.D.Drive.held c.args.drives.now.items) loaded.header (λ helds. run_in c.args.wish loaded.graph)
     (LeavesHeld g.D.Drive.held c.args.drives.now.items c.load.new.drives.items) (g.K.Sink.faults c.args.out.now) (g.K.Sink.faults c.write_head_of.new.out) (g.K.Sink.written c.args.out.now) (g.K.Sink.written c.write_head_of.new.out) (g.K.Sink.keeps_back c.write_head_of.new.out) c.status.result
     c.in-Ok.ensures.outcome c.in-Ok.ensures.kept c.load.ensures.held c.in-Err-write_head_of.ensures.counted.failed c.in-Err-write_head_of.ensures.part c.status.ensures
 
 pub returns-clause-ends : goal.returns-clause-ends
 returns-clause-ends g c =
     let loaded = c.in-Ok.loaded in
-    ends_in_memory_after_head g.D.Drive.faults c.args.drives.now.items c.load.new.drives.items c.args.wish (all_told g.D.Drive.held c.args.drives.now.items) loaded.header loaded.graph
+    ends_in_memory_after_head g.D.Drive.faults c.args.drives.now.items c.load.new.drives.items c.args.wish None (all_told g.D.Drive.held c.args.drives.now.items) loaded.header loaded.graph
     (LeavesHeld g.D.Drive.held c.args.drives.now.items c.load.new.drives.items) (g.K.Sink.faults c.args.out.now) (g.K.Sink.faults c.write_head_of.new.out) (g.K.Sink.faults c.run_picked.new.out)
     (g.K.Sink.written c.args.out.now) (g.K.Sink.written c.write_head_of.new.out) (g.K.Sink.written c.run_picked.new.out) (g.K.Sink.keeps_back c.run_picked.new.out) c.run_picked.result
     c.in-Ok.ensures.outcome c.in-Ok.ensures.kept (λ end. c.load.ensures.held) c.in_default.ensures.counted.kept c.in_default.ensures.whole c.run_picked.ensures.ends

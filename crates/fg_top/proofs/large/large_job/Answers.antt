@@ -22,7 +22,7 @@ returns-clause-ends g c =
     ends_generated held-value.it faults-value.it plan c.args.recipe c.args.wish c.in-Ok.drives.items c.run_job.new.drives.items
     (LeavesHeld held-value.it c.in-Ok.drives.items c.run_job.new.drives.items) (output_between g.K.Sink c.args.out.now c.run_job.new.out) c.run_job.result
     (λ edges are. open_to_edges plan edges fits are)
-    c.in-Ok.ensures.made (none_fails room-value.it faults-value.it c.in-Ok.drives.items c.run_job.new.drives.items (λ drive. refl) c.run_job.ensures.sure) c.run_job.ensures.ends
+    c.in-Ok.ensures.made (none_fails room-value.it faults-value.it c.in-Ok.drives.items c.run_job.new.drives.items (λ drive. refl) c.run_job.ensures.sure) c.run_job.ensures.ends.ends
 
 pub returns-clause-tally : goal.returns-clause-tally
 returns-clause-tally g c =

@@ -6,7 +6,7 @@ use Rattle.fg_top.proofs.opening.open_sourced.Goals as goal
 
 pub returns-in-Err-clause-cause : goal.returns-in-Err-clause-cause
 returns-in-Err-clause-cause g c =
-    cause_of_opening g.D.Drive.faults c.args.drives.now.items c.open.new.drives.items c.args.wish (all_told g.D.Drive.held c.args.drives.now.items) c.in-Err.refusal
+    λ stats. cause_of_opening g.D.Drive.faults c.args.drives.now.items c.open.new.drives.items c.args.wish stats (all_told g.D.Drive.held c.args.drives.now.items) c.in-Err.refusal
     c.in-Err.ensures.counts c.in-Err.ensures.answer
 
 pub returns-in-Err-clause-not_output : goal.returns-in-Err-clause-not_output
@@ -15,7 +15,7 @@ returns-in-Err-clause-not_output g c =
 
 pub returns-in-Some-clause-cause : goal.returns-in-Some-clause-cause
 returns-in-Some-clause-cause g c =
-    cause_of_source g.D.Drive.faults c.args.drives.now.items c.open.new.drives.items c.args.wish (all_told g.D.Drive.held c.args.drives.now.items) c.in-Ok.opened c.in-Some.source
+    λ stats. cause_of_source g.D.Drive.faults c.args.drives.now.items c.open.new.drives.items c.args.wish stats (all_told g.D.Drive.held c.args.drives.now.items) c.in-Ok.opened c.in-Some.source
     c.in-Ok.ensures.counts c.in-Ok.ensures.answer c.in-Some.ensures.0 c.in-Some.ensures.1
 
 pub returns-clause-means : goal.returns-clause-means

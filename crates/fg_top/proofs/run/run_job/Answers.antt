@@ -1,41 +1,86 @@
-use Rattle.std.proofs.Common.{◌≡◌, IfSome, List, subst, rules}
+use Rattle.std.proofs.Common.{◌≡◌, IfSome, Some, List, subst, rules}
+use Rattle.fg_base.specs.declared.refusal.Refusal.{Refusal}
 use Rattle.fg_build.specs.OpeningReads.{opening_reads}
 use Rattle.fg_engine.specs.Tallies.{tally_between}
 use Rattle.fg_outside.specs.Drives.{EachSame, LogsGrew, NoneRose, RoomyKept, all_told}
 use Rattle.fg_outside.proofs.DriveLemmas.{EachSame-more, RoomyKept-more, all_told-same}
 use Rattle.fg_report.specs.Refusals.{refusal_line}
 use Rattle.fg_top.specs.Calls.{output_between}
-use Rattle.fg_top.specs.Ends.{LeavesHeld}
 use Rattle.fg_top.specs.Outcome.{run_on}
+use Rattle.fg_top.specs.Stats.{CountsCall, CountsRun, LeavesStats, asked}
 use Rattle.fg_top.specs.Statuses.{CameToEnd}
 use Rattle.fg_top.proofs.BuildDrives.{held_status}
 use Rattle.fg_top.proofs.JobLemmas.{ends_after_head, ends_at_head, reads_all, reads_none, reads_of_all, tally_of}
 use Rattle.fg_top.proofs.OutcomeLemmas.{runs_so}
+use Rattle.fg_top.proofs.StatsLemmas.{counts_called, leaves_called, leaves_refused, no_stats}
 use Rattle.fg_top.proofs.TallyLemmas.{went_given_up, went_of, went_refused}
 use Rattle.fg_top.proofs.run.run_job.Goals as goal
 
+pub returns-in-Err-clause-ends : goal.returns-in-Err-clause-ends
+returns-in-Err-clause-ends g c =
+    let olds = c.args.drives.now.items in
+    let news = c.open_sourced.new.drives.items in
+    let refusal = c.in-Err.refusal in
+    let counts = CountsCall no_stats g.D.Drive olds news (tally_between g.T.Tally c.args.tally.now c.args.tally.now) in
+    record {
+      stats = no_stats;
+      ends = record {
+        end = Some refusal;
+        text = refusal_line refusal;
+        cause = c.in-Err.ensures.cause (asked c.args.stats no_stats);
+        left = leaves_refused g.D.Drive.held olds news c.args.stats counts refusal c.open_sourced.ensures.held;
+        written = c.refuse.ensures;
+      };
+    }
+
 pub returns-in-Err-write_head_of-clause-ends : goal.returns-in-Err-write_head_of-clause-ends
 returns-in-Err-write_head_of-clause-ends g c =
-    ends_at_head g.D.Drive.faults c.args.drives.now.items c.open_sourced.new.drives.items c.args.wish (all_told g.D.Drive.held c.args.drives.now.items) c.in-Ok.opened.header
-    (run_on c.args.wish c.in-Ok.opened) (LeavesHeld g.D.Drive.held c.args.drives.now.items c.open_sourced.new.drives.items)
-    (g.K.Sink.faults c.args.out.now) (g.K.Sink.faults c.write_head_of.new.out) (g.K.Sink.written c.args.out.now) (g.K.Sink.written c.write_head_of.new.out)
-    (g.K.Sink.keeps_back c.write_head_of.new.out) c.status.result (runs_so c.args.wish (all_told g.D.Drive.held c.args.drives.now.items) c.in-Ok.opened c.in-Ok.ensures.opening c.in-Ok.ensures.sourced) c.in-Ok.ensures.kept c.in-Ok.ensures.held c.in-Err-write_head_of.ensures.counted.failed c.in-Err-write_head_of.ensures.part c.status.ensures
+    let olds = c.args.drives.now.items in
+    let news = c.open_sourced.new.drives.items in
+    let told = all_told g.D.Drive.held olds in
+    let stats = asked c.args.stats no_stats in
+    let opened = c.in-Ok.opened in
+    let counts = CountsCall no_stats g.D.Drive olds news (tally_between g.T.Tally c.args.tally.now c.args.tally.now) in
+    let written = c.write_head_of.new.out in
+    record {
+      stats = no_stats;
+      ends = ends_at_head g.D.Drive.faults olds news c.args.wish stats told opened.header (run_on c.args.wish opened)
+          (LeavesStats g.D.Drive.held olds news c.args.stats counts)
+          (g.K.Sink.faults c.args.out.now) (g.K.Sink.faults written) (g.K.Sink.written c.args.out.now) (g.K.Sink.written written) (g.K.Sink.keeps_back written) c.status.result
+          (runs_so c.args.wish stats told opened c.in-Ok.ensures.opening c.in-Ok.ensures.sourced) c.in-Ok.ensures.kept
+          (leaves_refused g.D.Drive.held olds news c.args.stats counts Refusal.Memory c.in-Ok.ensures.held) c.in-Err-write_head_of.ensures.counted.failed
+          c.in-Err-write_head_of.ensures.part c.status.ensures;
+    }
 
 pub returns-clause-ends : goal.returns-clause-ends
 returns-clause-ends g c =
     let olds = c.args.drives.now.items in
     let taken = c.replace-taken.result.items in
+    let ran = c.run_picked-back in
+    let back = ran.result.drives.items in
+    let told = all_told g.D.Drive.held olds in
+    let opened = c.in-Ok.opened in
+    let stats = ran.ensures.stats in
+    let tally = tally_between g.T.Tally c.args.tally.now ran.new.tally in
     let moved : c.open_sourced.new.drives.items ≡ taken = search rules in
     let Kept : List g.row.D.Denot → Type 0 = λ list. NoneRose g.D.Drive.faults olds list in
     let Held : List g.row.D.Denot → Type 0 = λ list. EachSame g.D.Drive.held olds list in
-    ends_after_head g.D.Drive.faults olds taken c.run_picked-back.result.drives.items c.args.wish (all_told g.D.Drive.held olds) (all_told g.D.Drive.held taken) c.in-Ok.opened.header
-    (run_on c.args.wish c.in-Ok.opened) (LeavesHeld g.D.Drive.held taken c.run_picked-back.result.drives.items) (LeavesHeld g.D.Drive.held olds c.run_picked-back.result.drives.items)
-    (g.K.Sink.faults c.args.out.now) (g.K.Sink.faults c.write_head_of.new.out) (g.K.Sink.faults c.run_picked-back.new.out)
-    (g.K.Sink.written c.args.out.now) (g.K.Sink.written c.write_head_of.new.out) (g.K.Sink.written c.run_picked-back.new.out) (g.K.Sink.keeps_back c.run_picked-back.new.out) c.run_picked-back.result.status
-    (all_told-same g.D.Drive.held olds taken (subst Held moved c.in-Ok.ensures.held))
-    (runs_so c.args.wish (all_told g.D.Drive.held olds) c.in-Ok.opened c.in-Ok.ensures.opening c.in-Ok.ensures.sourced) (subst Kept moved c.in-Ok.ensures.kept)
-    (λ end. EachSame-more g.D.Drive.held olds taken c.run_picked-back.result.drives.items (subst Held moved c.in-Ok.ensures.held) c.run_picked-back.ensures.held)
-    c.in_default.ensures.counted.kept c.in_default.ensures.whole c.run_picked-back.ensures.ends
+    let Read : List g.row.D.Denot → Type 0 = λ list. IfSome told (λ helds. LogsGrew g.D.Drive.log (opening_reads helds) olds list) in
+    let same : EachSame g.D.Drive.held olds taken = subst Held moved c.in-Ok.ensures.held in
+    let run_counts = CountsRun stats g.D.Drive.log taken back tally in
+    let counts = CountsCall stats g.D.Drive olds back tally in
+    record {
+      stats = stats;
+      ends = ends_after_head g.D.Drive.faults olds taken back c.args.wish (asked c.args.stats stats) told (all_told g.D.Drive.held taken) opened.header
+          (run_on c.args.wish opened) (LeavesStats g.D.Drive.held taken back c.args.stats run_counts) (LeavesStats g.D.Drive.held olds back c.args.stats counts)
+          (g.K.Sink.faults c.args.out.now) (g.K.Sink.faults c.write_head_of.new.out) (g.K.Sink.faults ran.new.out)
+          (g.K.Sink.written c.args.out.now) (g.K.Sink.written c.write_head_of.new.out) (g.K.Sink.written ran.new.out) (g.K.Sink.keeps_back ran.new.out) ran.result.status
+          (all_told-same g.D.Drive.held olds taken same)
+          (runs_so c.args.wish (asked c.args.stats stats) told opened c.in-Ok.ensures.opening c.in-Ok.ensures.sourced) (subst Kept moved c.in-Ok.ensures.kept)
+          (leaves_called g.D.Drive.held olds taken back c.args.stats run_counts counts same
+          (counts_called stats g.D.Drive olds taken back tally (subst Read moved c.in-Ok.ensures.all_read)))
+          c.in_default.ensures.counted.kept c.in_default.ensures.whole ran.ensures.ends;
+    }
 
 pub returns-clause-drives : goal.returns-clause-drives
 returns-clause-drives g c =

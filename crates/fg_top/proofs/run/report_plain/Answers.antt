@@ -1,4 +1,4 @@
-use Rattle.std.proofs.Common.{◌≡◌, ℕ, IfSome, List, subst, rules}
+use Rattle.std.proofs.Common.{◌≡◌, ℕ, None, false, IfSome, List, subst, rules}
 use Rattle.std.proofs.lemmas.Option.{IfSome_then}
 use Rattle.fg_engine.specs.Told.{ReadsAsked}
 use Rattle.fg_engine.specs.Tallies.{RoseByRun, RoseWithin, tally_between}
@@ -8,13 +8,15 @@ use Rattle.fg_model.specs.Run.{Run, begun_of, run}
 use Rattle.fg_build.specs.Opening.{graph_on}
 use Rattle.fg_outside.specs.Drives.{all_told}
 use Rattle.fg_top.specs.Calls.{output_over}
-use Rattle.fg_top.specs.Ends.{Ends, LeavesHeld}
+use Rattle.fg_top.specs.Ends.{Ends}
 use Rattle.fg_top.specs.Outcome.{rules_of}
 use Rattle.fg_top.specs.Running.{RunComesTo}
+use Rattle.fg_top.specs.Stats.{CountsRun, LeavesStats}
 use Rattle.fg_top.specs.Statuses.{CameToEnd}
 use Rattle.fg_top.proofs.RunEnds.{closed_not_held, closed_whole, ends_of_run, run_is_ok}
+use Rattle.fg_top.proofs.StatsLemmas.{no_stats, where_ok}
 use Rattle.fg_top.proofs.TallyLemmas.{went_by}
-use Rattle.fg_top.proofs.run.report_run.Goals as goal
+use Rattle.fg_top.proofs.run.report_plain.Goals as goal
 
 -- a fact of the rules and of the most iterations, by other names of both
 asked : (Of : Rules → ℕ → Type 0) (P Q : Rules) (most max : ℕ) → P ≡ Q → most ≡ max → Of P most → Of Q max
@@ -37,23 +39,25 @@ returns g c =
     let t1 = g.K.Sink.written watched in
     let last = closed.new.out in
     let tally = tally_between g.T.Tally c.args.tally.now ran.new.tally in
+    let leaves = LeavesStats g.D.Drive.held olds news false (CountsRun no_stats g.D.Drive.log olds news tally) in
     let run_by : Rules → ℕ → List (List ℕ) → Run = λ rules max helds. run rules (graph_on c.args.opened helds) max in
     let Reads : Rules → ℕ → Type 0 = λ rules max. IfSome told (λ helds. ReadsAsked g.D.Drive.log rules c.args.opened (run_by rules max helds) olds news) in
-    let At : g.row.K.Denot → Rules → ℕ → Type 0 = λ sink rules max. Ends g.D.Drive.faults olds news (RunComesTo rules wish told (run_by rules max)) (LeavesHeld g.D.Drive.held olds news)
+    let At : g.row.K.Denot → Rules → ℕ → Type 0 = λ sink rules max. Ends g.D.Drive.faults olds news (RunComesTo rules wish None told (run_by rules max)) leaves
     (output_over f0 (g.K.Sink.faults sink) t0 (g.K.Sink.written sink) (g.K.Sink.keeps_back sink)) closed.result in
     let Rose : Rules → ℕ → Type 0 = λ rules max. IfSome told (λ helds. RoseByRun (run_by rules max helds) tally) in
     let Went : Rules → ℕ → Type 0 = λ rules max. IfSome told (λ helds. RoseWithin (CameToEnd closed.result) (begun_of (run_by rules max helds)) tally) in
-    let ends : At last P most = ends_of_run g.D.Drive.faults olds news P wish told (run_by P most) (LeavesHeld g.D.Drive.held olds news) ran.result.answer f0 f1 (g.K.Sink.faults last) t0 t1
-    (g.K.Sink.written last) (g.K.Sink.keeps_back last) closed.result (λ end. ran.ensures.held) ran.ensures.grew ran.ensures.answer ran.ensures.faults ran.ensures.shown closed.ensures in
+    let ends : At last P most = ends_of_run g.D.Drive.faults olds news P wish None told (run_by P most) leaves ran.result.answer f0 f1 (g.K.Sink.faults last) t0 t1
+    (g.K.Sink.written last) (g.K.Sink.keeps_back last) closed.result (λ refusal. ran.ensures.held) (where_ok ran.result.answer (leaves None) ran.ensures.held) ran.ensures.grew ran.ensures.answer ran.ensures.faults ran.ensures.shown closed.ensures in
     record {
       held = ran.ensures.held;
       sure = ran.ensures.sure;
       reads = asked Reads _ _ _ _ c.requires.picked c.options-options.ensures.max ran.ensures.reads;
+      stats = no_stats;
       ends = subst (λ (sink : g.row.K.Denot). At sink (rules_of wish.pick) wish.max) (search rules) (asked (At last) _ _ _ _ c.requires.picked c.options-options.ensures.max ends);
-      tally = λ done. asked Rose _ _ _ _ c.requires.picked c.options-options.ensures.max (run_is_ok wish.quiet _ _ _ _ _ _ ran.result.answer closed.result _ closed.ensures done ran.ensures.ok_tally);
+      tally = λ done. asked Rose _ _ _ _ c.requires.picked c.options-options.ensures.max (run_is_ok None wish.quiet _ _ _ _ _ _ ran.result.answer closed.result _ closed.ensures done ran.ensures.ok_tally);
       tally_went = asked Went _ _ _ _ c.requires.picked c.options-options.ensures.max
           (IfSome_then told ran.ensures.tally
           (λ helds went. went_by (IsWhole ran.result.answer) (CameToEnd closed.result) (begun_of (run_by P most helds)) tally
-          (closed_whole wish.quiet _ _ _ _ _ _ ran.result.answer closed.result closed.ensures) went));
-      began = closed_not_held wish.quiet _ _ _ _ _ _ ran.result.answer closed.result closed.ensures;
+          (closed_whole None wish.quiet _ _ _ _ _ _ ran.result.answer closed.result closed.ensures) went));
+      began = closed_not_held None wish.quiet _ _ _ _ _ _ ran.result.answer closed.result closed.ensures;
     }
