@@ -35,9 +35,9 @@ def fields_of(drawn, contents):
     for _ in range(drawn.choice((1, 1, 1, 2, 3))):
         content = drawn.choice(contents)
         kind = drawn.random()
-        if kind < .25:
+        if kind < .1:
             set_field(drawn, content, *drawn.choice(LABEL))
-        elif kind < .6:
+        elif kind < .5:
             place, size = drawn.choice(HEADER)
             set_field(drawn, contents[0], PAGE + place, size)
         else:
@@ -53,15 +53,16 @@ def bytes_of(drawn, contents):
         number = drawn.randrange(len(contents))
         content = contents[number]
         kind = drawn.random()
-        if kind < .6 and content:
-            place = drawn.randrange(len(content))
-            content[place:place + 1] = bytes([drawn.randrange(256)])
-        elif kind < .7:
+        if kind < .8 and len(content) > PAGE:
+            # mostly behind the label, which one byte spoils
+            place = drawn.randrange(PAGE * drawn.choice((0, 1, 1, 1, 1)), len(content))
+            content[place] = drawn.randrange(256)
+        elif kind < .85:
             del content[drawn.choice((drawn.randrange(len(content) + 1), PAGE * drawn.randrange(6))):]
-        elif kind < .75:
+        elif kind < .9:
             content += bytes(drawn.randrange(3 * PAGE))
-        elif kind < .9 and len(content) >= 2 * PAGE:
-            one, two = (PAGE * drawn.randrange(len(content) // PAGE) for _ in range(2))
+        elif kind < .97 and len(content) >= 3 * PAGE:
+            one, two = (PAGE * drawn.randrange(1, len(content) // PAGE) for _ in range(2))
             content[one:one + PAGE], content[two:two + PAGE] = content[two:two + PAGE], content[one:one + PAGE]
         else:
             two = drawn.randrange(len(contents))

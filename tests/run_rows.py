@@ -86,7 +86,7 @@ RUNS = [
     refused('no words', '', 'words parse', 2),
     refused('an unknown command', 'walk D0', 'words command', 2),
     refused('an option without a command', '--program bfs', 'words parse', 2),
-    refused('an unknown option', 'run --stats --program bfs --source 0 D0', 'words parse', 2),
+    refused('an unknown option', 'run --colour --program bfs --source 0 D0', 'words parse', 2),
     refused('an option twice', 'run --source 0 --source 1 --program bfs D0', 'words parse', 2),
     refused('an option without its value', 'run --program bfs --source', 'words parse', 2),
     row('an option behind a drive', 'run --program bfs --source 4 D0 --max=9', FROM_FOUR),

@@ -11,6 +11,7 @@ from dataclasses import dataclass, field
 
 TOP = pathlib.Path(__file__).resolve().parent.parent
 FG = str(TOP / 'fg')
+PROGRAM = str(TOP / 'crates/fg_run/out/fg_run')
 
 
 @dataclass
@@ -52,6 +53,14 @@ def prints(shows, words, text, files, status=0, **more):
 
 def refused(shows, words, what, status, files):
     return prints(shows, words, f'refused: {what}\n', files, status)
+
+
+def command_of(words):
+    """These words as a command, or, where there are none, the program without its launcher, which builds it before."""
+    if words:
+        return shlex.split(words)
+    subprocess.run([FG, *'gen --start 1 --nodes 1 --edges 1'.split()], stdout=subprocess.DEVNULL, check=True)
+    return [PROGRAM]
 
 
 def waiting(pipe):

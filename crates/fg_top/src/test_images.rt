@@ -53,13 +53,16 @@ fn put(bytes: &mut [u8], place: usize, number: u32) {
     }
 }
 
+fn put_all(bytes: &mut [u8], numbers: Numbers) {
+    for (place, number) in numbers {
+        put(bytes, *place, *number);
+    }
+}
+
 fn image(alloc: Global, setting: Setting) -> Result<Vec<u8>, AllocError> {
     let mut bytes = vec![in alloc; 0; PAGES * PAGE_BYTES]?;
-    for numbers in [setting.numbers, setting.changes] {
-        for (place, number) in numbers {
-            put(&mut bytes, *place, *number);
-        }
-    }
+    put_all(&mut bytes, setting.numbers);
+    put_all(&mut bytes, setting.changes);
     Ok(bytes)
 }
 
