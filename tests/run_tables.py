@@ -38,7 +38,9 @@ def print_programs(found, images):
     rows = []
     for key, image in itertools.product([('build',), *((program, MOST) for program in PROGRAMS)], images):
         both = [found.get((who, image.name, *key)) for who in ('fg', 'yardstick')]
-        seconds, processor, memory = ([one and take(one.spent) for one in both] for take in (lambda one: one.seconds, lambda one: one.processor, mebibytes))
+        spent = [one and one.spent for one in both]
+        seconds, processor = [one and one.seconds for one in spent], [one and one.processor for one in spent]
+        memory = [one and mebibytes(one) for one in spent]
         rows.append([key[0], image.name, *compared(*seconds, '.3f'), *compared(*processor, '.3f'), *compared(*memory, '.0f')])
     beside = ('yardstick', 'ratio')
     print_table(f'Programs, {MOST} workers', ['program', 'graph', 'seconds', *beside, 'processor', *beside, 'MiB', *beside], rows)
